@@ -1,0 +1,130 @@
+-- Laws of little-endian numbers, at every width.
+use mathlib.Core.Path.{_≡_, refl, sym, ap, _∙_}
+use mathlib.Core.List.{List, [], _∷_, _++_, append-assoc}
+use Prim.Native.Nat.{ℕ, zero, suc, _+_, _*_, _/_, _%_, _^_, _≤_, _<_}
+use native.Mathlib.Nat.{zero-add, suc-add, add-suc, add-zero, mul-zero, mul-suc, mul-comm, mul-assoc, mul-add, pow-suc, pow-succ', mod-one, mod-lt, mod-eq-of-lt, div-one, div-add-mod, div-div-eq-div-mul, add-mul-mod-self-left, mul-pos, mul-le-mul-left, lt-of-lt-of-le}
+use native.Mathlib.Omega.{arith}
+use lib.ListN.{length, take, drop, getD}
+use lib.Seq.{sets, sets-eq, drop-cons, drop-at, length-take-le, getD-drop}
+use Rattle.base.specs.Buffers.{flat}
+use Rattle.base.specs.Bytes.{littleEndian, bytesOf}
+use Rattle.base.proofs.BufferLaws.{sets-append}
+
+pub power-pos : (k : ℕ) → 0 < 256 ^ k
+power-pos zero = omega arith
+power-pos (suc k) = rw pow-suc (mul-pos (power-pos k) (omega arith))
+
+-- a remainder by a product, by the two factors in turn
+pub mod-mul : (v a b : ℕ) → 0 < a → 0 < b → v % a + a * (v / a % b) ≡ v % (a * b)
+mod-mul v a b ha hb =
+    let q = v / a in
+    let low = v % a + a * (q % b) in
+    let small : low < a * b = lt-of-lt-of-le (below (v % a) (a * (q % b)) (mod-lt v ha)) (rw (← mul-suc a (q % b)) (mul-le-mul-left a (mod-lt q hb))) in
+    let split : a * q ≡ a * b * (q / b) + a * (q % b) = ap (λ (n : ℕ). a * n) (sym (div-add-mod q b)) ∙ mul-add a (b * (q / b)) (q % b) ∙ ap (λ (n : ℕ). n + a * (q % b)) (sym (mul-assoc a b (q / b))) in
+    let whole : v ≡ low + a * b * (q / b) = sym (div-add-mod v a) ∙ joined (a * q) (v % a) (a * b * (q / b)) (a * (q % b)) split in
+    sym (ap (λ (n : ℕ). n % (a * b)) whole ∙ add-mul-mod-self-left low (a * b) (q / b) ∙ mod-eq-of-lt small)
+  where
+    below : (r m : ℕ) → r < a → r + m < m + a
+    below r m h = omega arith
+
+    joined : (n r m t : ℕ) → n ≡ m + t → n + r ≡ r + t + m
+    joined n r m t e = omega arith
+
+pub length-bytesOf : (k v : ℕ) → length (bytesOf k v) ≡ k
+unfolding bytesOf
+length-bytesOf zero v = refl
+length-bytesOf (suc k) v = ap suc (length-bytesOf k (v / 256))
+
+-- ---- a number in two parts, the lower one first
+
+swapped : (p x : ℕ) → p * 256 * x ≡ 256 * (p * x)
+swapped p x = ap (λ (n : ℕ). n * x) (mul-comm p 256) ∙ mul-assoc 256 p x
+
+pub littleEndian-join : (j k : ℕ) (s : List ℕ) (at : ℕ) → littleEndian (j + k) s at ≡ littleEndian j s at + 256 ^ j * littleEndian k s (at + j)
+unfolding littleEndian
+littleEndian-join zero k s at = rw (zero-add k, add-zero at) (omega arith)
+littleEndian-join (suc j) k s at =
+    let e : at + suc j ≡ suc at + j = omega arith in
+    rw (suc-add j k, e, pow-suc 256 j, swapped (256 ^ j) (littleEndian k s (suc at + j)), littleEndian-join j k s (suc at)) (omega arith)
+
+pub bytesOf-join : (j k v : ℕ) → bytesOf (j + k) v ≡ bytesOf j v ++ bytesOf k (v / 256 ^ j)
+unfolding bytesOf
+bytesOf-join zero k v = rw (zero-add k, div-one v)
+bytesOf-join (suc j) k v =
+    let e : v / 256 / 256 ^ j ≡ v / 256 ^ suc j = div-div-eq-div-mul v 256 (256 ^ j) ∙ ap (λ (n : ℕ). v / n) (mul-comm 256 (256 ^ j) ∙ sym (pow-suc 256 j)) in
+    rw (suc-add j k, ← e, bytesOf-join j k (v / 256))
+
+-- the lower part needs the low bytes alone
+pub bytesOf-low : (k v : ℕ) → bytesOf k (v % 256 ^ k) ≡ bytesOf k v
+unfolding bytesOf
+bytesOf-low zero v = refl
+bytesOf-low (suc k) v =
+    let e : v % 256 ^ suc k ≡ v % 256 + 256 * (v / 256 % 256 ^ k) = rw pow-succ' (sym (mod-mul v 256 (256 ^ k) (omega arith) (power-pos k))) in
+    let m : (v % 256 + 256 * (v / 256 % 256 ^ k)) % 256 ≡ v % 256 = omega arith in
+    let d : (v % 256 + 256 * (v / 256 % 256 ^ k)) / 256 ≡ v / 256 % 256 ^ k = omega arith in
+    rw (e, m, d, bytesOf-low k (v / 256))
+
+-- stores of the two parts are one store
+pub sets-join : (j k v : ℕ) (s : List ℕ) (at : ℕ) → sets (sets s at (bytesOf j (v % 256 ^ j))) (at + j) (bytesOf k (v / 256 ^ j)) ≡ sets s at (bytesOf (j + k) v)
+sets-join j k v s at =
+    let e : at + j ≡ at + length (bytesOf j v) = rw length-bytesOf in
+    rw (bytesOf-low, e, ← sets-append, ← bytesOf-join)
+
+-- ---- read after a front
+
+littleEndian-cons : (k x : ℕ) (s : List ℕ) (at : ℕ) → littleEndian k (x ∷ s) (suc at) ≡ littleEndian k s at
+unfolding littleEndian
+littleEndian-cons zero x s at = refl
+littleEndian-cons (suc k) x s at = ap (λ (n : ℕ). getD s at 0 + 256 * n) (littleEndian-cons k x s (suc at))
+
+pub littleEndian-drop : (k : ℕ) (s : List ℕ) (n at : ℕ) → littleEndian k (drop n s) at ≡ littleEndian k s (n + at)
+unfolding littleEndian
+littleEndian-drop zero s n at = refl
+littleEndian-drop (suc k) s n at = rw (getD-drop n s at 0, littleEndian-drop k s n (suc at), add-suc n at)
+
+-- ---- what was written is read back
+
+pub littleEndian-front : (k v : ℕ) (r : List ℕ) → littleEndian k (bytesOf k v ++ r) 0 ≡ v % 256 ^ k
+unfolding littleEndian bytesOf
+littleEndian-front zero v r = sym (mod-one v)
+littleEndian-front (suc k) v r =
+    rw (littleEndian-cons k (v % 256) (bytesOf k (v / 256) ++ r) 0, littleEndian-front k (v / 256) r, pow-succ' 256 k) (mod-mul v 256 (256 ^ k) (omega arith) (power-pos k))
+
+pub littleEndian-sets : (k v : ℕ) (s : List ℕ) (at : ℕ) → at + k ≤ length s → littleEndian k (sets s at (bytesOf k v)) at ≡ v % 256 ^ k
+littleEndian-sets k v s at h =
+    let r = drop (at + length (bytesOf k v)) s in
+    let g : at + length (bytesOf k v) ≤ length s = rw length-bytesOf h in
+    let e : length (take at s) ≡ at = length-take-le at s (omega arith) in
+    let z : at ≡ at + 0 = omega arith in
+    rw (sets-eq (bytesOf k v) s at g, append-assoc)
+    (ap (littleEndian k (take at s ++ (bytesOf k v ++ r))) z
+    ∙ sym (littleEndian-drop k (take at s ++ (bytesOf k v ++ r)) at 0)
+    ∙ ap (λ (l : List ℕ). littleEndian k l 0) (drop-at (take at s) (bytesOf k v ++ r) at e)
+    ∙ littleEndian-front k v r)
+
+-- the elements of a packed array
+pub littleEndian-flat : (k : ℕ) (ws r : List ℕ) (i : ℕ) → i < length ws → littleEndian k (flat (bytesOf k) ws ++ r) (k * i) ≡ getD ws i 0 % 256 ^ k
+unfolding flat
+littleEndian-flat k [] r i h = absurd (omega arith)
+littleEndian-flat k (w ∷ ws) r zero h = rw (mul-zero k, append-assoc (bytesOf k w) (flat (bytesOf k) ws) r) (littleEndian-front k w (flat (bytesOf k) ws ++ r))
+littleEndian-flat k (w ∷ ws) r (suc i) h =
+    let e : k * suc i ≡ k + k * i = rw mul-suc (omega arith) in
+    rw (append-assoc (bytesOf k w) (flat (bytesOf k) ws) r, e, ← littleEndian-drop, drop-at (bytesOf k w) (flat (bytesOf k) ws ++ r) k (length-bytesOf k w)) (littleEndian-flat k ws r i (omega arith))
+
+-- ---- what was read is written back
+
+module _ (s : List ℕ) (small : (i : ℕ) → getD s i 0 < 256) where
+  pub littleEndian-lt : (k at : ℕ) → littleEndian k s at < 256 ^ k
+  unfolding littleEndian
+  littleEndian-lt zero at = omega arith
+  littleEndian-lt (suc k) at = rw pow-suc (omega (arith, small at, littleEndian-lt k (suc at)))
+
+  pub bytesOf-littleEndian : (k at : ℕ) → at + k ≤ length s → bytesOf k (littleEndian k s at) ≡ take k (drop at s)
+  unfolding littleEndian bytesOf
+  bytesOf-littleEndian zero at h = refl
+  bytesOf-littleEndian (suc k) at h =
+      let l : at < length s = omega arith in
+      let n = littleEndian k s (suc at) in
+      let m : (getD s at 0 + 256 * n) % 256 ≡ getD s at 0 = omega (arith, small at) in
+      let d : (getD s at 0 + 256 * n) / 256 ≡ n = omega (arith, small at) in
+      rw (drop-cons s at 0 l, m, d) (ap (λ (r : List ℕ). getD s at 0 ∷ r) (bytesOf-littleEndian k (suc at) (omega arith)))

@@ -1,0 +1,7 @@
+-- Laws about base's definitions, for the proofs of every crate.
+pub mod CaseLaws
+pub mod ListLaws
+pub mod BufferLaws
+pub mod ByteLaws
+pub mod WordLaws
+pub mod TableLaws

@@ -1,0 +1,75 @@
+-- Laws of `every`, `firstFailing` and `Heads`.
+use mathlib.Core.Path.{_≡_, refl, sym, ap, _∙_}
+use mathlib.Core.Bool.{Bool, true, false, _&&_}
+use mathlib.Core.List.{List, [], _∷_, _++_, append-assoc, append-nil}
+use Prim.Native.Nat.{ℕ}
+use native.Mathlib.Omega.{arith}
+use mathlib.Core.Option.{none, some}
+use Rattle.base.specs.Lists.{every, firstFailing, Heads}
+
+-- ---- tests
+
+pub and-left : (a b : Bool) → (a && b) ≡ true → a ≡ true
+and-left true b e = refl
+and-left false b e = e
+
+pub and-right : (a b : Bool) → (a && b) ≡ true → b ≡ true
+and-right true b e = e
+and-right false true e = refl
+and-right false false e = e
+
+pub every-head : (t : Bool) (ts : List Bool) → every (t ∷ ts) ≡ true → t ≡ true
+unfolding every
+every-head t ts e = and-left t (every ts) e
+
+pub every-tail : (t : Bool) (ts : List Bool) → every (t ∷ ts) ≡ true → every ts ≡ true
+unfolding every
+every-tail t ts e = and-right t (every ts) e
+
+pub every-cons : (t : Bool) (ts : List Bool) → t ≡ true → every ts ≡ true → every (t ∷ ts) ≡ true
+unfolding every
+every-cons t ts e f = rw (e, f)
+
+-- ---- the first failing test
+
+module _ {C : Type 0} (c : C) (cs : List (Bool × C)) where
+  pub failing-passed : (t : Bool) → t ≡ true → firstFailing ((t, c) ∷ cs) ≡ firstFailing cs
+  unfolding firstFailing
+  failing-passed t e = rw e
+
+  pub failing-here : (t : Bool) → t ≡ false → firstFailing ((t, c) ∷ cs) ≡ some c
+  unfolding firstFailing
+  failing-here t e = rw e
+
+  -- where no test fails, the first one passes, and none of the others fails
+  pub failing-none : (t : Bool) → firstFailing ((t, c) ∷ cs) ≡ none → (t ≡ true) × (firstFailing cs ≡ none)
+  unfolding firstFailing
+  failing-none true e = (refl, e)
+  failing-none false e = let z : _≡_ {A = ℕ} 0 1 = cc in absurd (omega arith)
+
+-- ---- a list that begins with another
+
+module _ {A : Type 0} where
+  pub heads-by : {s t : List A} (r : List A) → t ≡ s ++ r → Heads s t
+  heads-by r e = record { more = r; whole = e }
+
+  pub heads-eq : {s t : List A} → t ≡ s → Heads s t
+  heads-eq {s} e = heads-by [] (e ∙ sym (append-nil s))
+
+  pub heads-refl : (s : List A) → Heads s s
+  heads-refl s = heads-eq refl
+
+  pub heads-nil : (t : List A) → Heads [] t
+  heads-nil t = heads-by t refl
+
+  pub heads-after : (p : List A) {s t : List A} → Heads s t → Heads (p ++ s) (p ++ t)
+  heads-after p {s} h = heads-by (h .more) (ap (λ (l : List A). p ++ l) (h .whole) ∙ sym (append-assoc p s (h .more)))
+
+  pub heads-cons : (a : A) {s t : List A} → Heads s t → Heads (a ∷ s) (a ∷ t)
+  heads-cons a h = heads-by (h .more) (ap (λ (l : List A). a ∷ l) (h .whole))
+
+  pub heads-longer : {s t : List A} (x : List A) → Heads s t → Heads s (t ++ x)
+  heads-longer {s} x h = heads-by (h .more ++ x) (ap (λ (l : List A). l ++ x) (h .whole) ∙ append-assoc s (h .more) x)
+
+  pub heads-trans : {r s t : List A} → Heads r s → Heads s t → Heads r t
+  heads-trans {r} g h = heads-by (g .more ++ h .more) (h .whole ∙ ap (λ (l : List A). l ++ h .more) (g .whole) ∙ append-assoc r (g .more) (h .more))

@@ -1,0 +1,18 @@
+-- What a lent buffer holds after its front was filled.
+use mathlib.Core.List.{List, [], _∷_, _++_}
+use Prim.Native.Nat.{ℕ, zero, suc}
+use lib.ListN.{length, drop}
+
+-- the new elements p, and then the rest of the old ones d
+unfoldable pub over : {A : Type 0} → List A → List A → List A
+over p d = p ++ drop (length p) d
+
+-- what enc gives for each element, one after the other
+unfoldable pub flat : {A B : Type 0} → (A → List B) → List A → List B
+flat enc [] = []
+flat enc (x ∷ xs) = enc x ++ flat enc xs
+
+-- f 0, f 1, .. f (n - 1)
+unfoldable pub upto : {A : Type 0} → (ℕ → A) → ℕ → List A
+upto f zero = []
+upto f (suc n) = upto f n ++ (f n ∷ [])

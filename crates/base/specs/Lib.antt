@@ -1,0 +1,7 @@
+-- The root of base's definitions. The laws about them are in proofs/.
+pub mod Choice
+pub mod Lists
+pub mod Buffers
+pub mod Bytes
+pub mod Words
+pub mod Tables
