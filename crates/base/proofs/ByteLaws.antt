@@ -1,14 +1,16 @@
 -- Laws of little-endian numbers, at every width.
 use mathlib.Core.Path.{_≡_, refl, sym, ap, _∙_}
-use mathlib.Core.List.{List, [], _∷_, _++_, append-assoc}
+use mathlib.Core.List.{List, [], _∷_, _++_, append-assoc, append-nil}
 use Prim.Native.Nat.{ℕ, zero, suc, _+_, _*_, _/_, _%_, _^_, _≤_, _<_}
-use native.Mathlib.Nat.{zero-add, suc-add, add-suc, add-zero, mul-zero, mul-suc, mul-comm, mul-assoc, mul-add, pow-suc, pow-succ', mod-one, mod-lt, mod-eq-of-lt, div-one, div-add-mod, div-div-eq-div-mul, add-mul-mod-self-left, mul-pos, mul-le-mul-left, lt-of-lt-of-le}
+use native.Mathlib.Nat.{zero-add, suc-add, add-suc, add-zero, mul-zero, mul-suc, mul-comm, mul-assoc, mul-add, pow-suc, pow-succ', mod-one, mod-lt, mod-eq-of-lt, div-one, div-add-mod, div-div-eq-div-mul, add-mul-mod-self-left, mul-pos, mul-le-mul-left, lt-of-lt-of-le, mul-div-cancel-left}
 use native.Mathlib.Omega.{arith}
 use lib.ListN.{length, take, drop, getD}
 use lib.Seq.{sets, sets-eq, drop-cons, drop-at, length-take-le, getD-drop}
 use Rattle.base.specs.Buffers.{flat}
-use Rattle.base.specs.Bytes.{littleEndian, bytesOf}
-use Rattle.base.proofs.BufferLaws.{sets-append}
+use Rattle.base.specs.Bytes.{littleEndian, bytesOf, elements}
+use Rattle.base.specs.Lists.{part}
+use Rattle.base.proofs.BufferLaws.{sets-append, length-flat, upto-is}
+use Rattle.base.proofs.ListLaws.{getD-part}
 
 pub power-pos : (k : ℕ) → 0 < 256 ^ k
 power-pos zero = omega arith
@@ -82,6 +84,12 @@ unfolding littleEndian
 littleEndian-drop zero s n at = refl
 littleEndian-drop (suc k) s n at = rw (getD-drop n s at 0, littleEndian-drop k s n (suc at), add-suc n at)
 
+pub littleEndian-part : (k : ℕ) (s : List ℕ) (at n j : ℕ) → j + k ≤ n → littleEndian k (part s at n) j ≡ littleEndian k s (at + j)
+unfolding littleEndian
+littleEndian-part zero s at n j h = refl
+littleEndian-part (suc k) s at n j h =
+    rw (getD-part s at n j 0 (omega arith), littleEndian-part k s at n (suc j) (omega arith), add-suc at j)
+
 -- ---- what was written is read back
 
 pub littleEndian-front : (k v : ℕ) (r : List ℕ) → littleEndian k (bytesOf k v ++ r) 0 ≡ v % 256 ^ k
@@ -110,6 +118,15 @@ littleEndian-flat k (w ∷ ws) r zero h = rw (mul-zero k, append-assoc (bytesOf 
 littleEndian-flat k (w ∷ ws) r (suc i) h =
     let e : k * suc i ≡ k + k * i = rw mul-suc (omega arith) in
     rw (append-assoc (bytesOf k w) (flat (bytesOf k) ws) r, e, ← littleEndian-drop, drop-at (bytesOf k w) (flat (bytesOf k) ws ++ r) k (length-bytesOf k w)) (littleEndian-flat k ws r i (omega arith))
+
+-- all of them: a packed array of numbers of k bytes
+pub elements-flat : (k : ℕ) (ws : List ℕ) → 0 < k → ((i : ℕ) → getD ws i 0 < 256 ^ k) → elements k (flat (bytesOf k) ws) ≡ ws
+unfolding elements
+elements-flat k ws hk small =
+    let l : length (flat (bytesOf k) ws) ≡ k * length ws = length-flat (bytesOf k) k (length-bytesOf k) ws in
+    let n : length (flat (bytesOf k) ws) / k ≡ length ws = ap (λ (m : ℕ). m / k) l ∙ mul-div-cancel-left (length ws) hk in
+    rw n (upto-is (λ i. littleEndian k (flat (bytesOf k) ws) (k * i)) ws 0 (λ i h.
+      ap (λ (s : List ℕ). littleEndian k s (k * i)) (sym (append-nil (flat (bytesOf k) ws))) ∙ littleEndian-flat k ws [] i h ∙ mod-eq-of-lt (small i)))
 
 -- ---- what was read is written back
 

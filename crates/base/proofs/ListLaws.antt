@@ -2,10 +2,12 @@
 use mathlib.Core.Path.{_≡_, refl, sym, ap, _∙_}
 use mathlib.Core.Bool.{Bool, true, false, _&&_}
 use mathlib.Core.List.{List, [], _∷_, _++_, append-assoc, append-nil}
-use Prim.Native.Nat.{ℕ}
+use Prim.Native.Nat.{ℕ, _+_, _≤_, _<_}
+use lib.ListN.{length, drop, getD, length-drop}
+use lib.Seq.{getD-take, getD-drop, length-take-le}
 use native.Mathlib.Omega.{arith}
-use mathlib.Core.Option.{none, some}
-use Rattle.base.specs.Lists.{every, firstFailing, Heads}
+use mathlib.Core.Option.{Option, none, some}
+use Rattle.base.specs.Lists.{every, firstFailing, orNext, part, Heads}
 
 -- ---- tests
 
@@ -46,6 +48,23 @@ module _ {C : Type 0} (c : C) (cs : List (Bool × C)) where
   unfolding firstFailing
   failing-none true e = (refl, e)
   failing-none false e = let z : _≡_ {A = ℕ} 0 1 = cc in absurd (omega arith)
+
+-- ---- two causes
+
+module _ {C : Type 0} where
+  -- where there is none, each is none
+  pub next-none : (c d : Option C) → orNext c d ≡ none → (c ≡ none) × (d ≡ none)
+  next-none none d e = (refl, e)
+  next-none (some c) d e = let z : _≡_ {A = ℕ} 0 1 = cc in absurd (omega arith)
+
+-- ---- parts
+
+module _ {A : Type 0} where
+  pub getD-part : (s : List A) (at n i : ℕ) (d : A) → i < n → getD (part s at n) i d ≡ getD s (at + i) d
+  getD-part s at n i d h = getD-take n (drop at s) i d h ∙ getD-drop at s i d
+
+  pub length-part : (s : List A) (at n : ℕ) → at + n ≤ length s → length (part s at n) ≡ n
+  length-part s at n h = length-take-le n (drop at s) (rw length-drop (omega arith))
 
 -- ---- a list that begins with another
 

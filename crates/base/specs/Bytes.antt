@@ -1,7 +1,8 @@
 -- Little-endian numbers in lists of bytes.
 use mathlib.Core.List.{List, [], _∷_}
 use Prim.Native.Nat.{ℕ, zero, suc, _+_, _*_, _/_, _%_}
-use lib.ListN.{getD}
+use lib.ListN.{length, getD}
+use Rattle.base.specs.Buffers.{upto}
 
 -- the number that the k bytes from place `at` on stand for, the lowest first; a byte past the end counts 0
 unfoldable pub littleEndian : ℕ → List ℕ → ℕ → ℕ
@@ -12,6 +13,10 @@ littleEndian (suc k) s at = getD s at 0 + 256 * littleEndian k s (suc at)
 unfoldable pub bytesOf : ℕ → ℕ → List ℕ
 bytesOf zero v = []
 bytesOf (suc k) v = v % 256 ∷ bytesOf k (v / 256)
+
+-- the elements of k bytes each that a list of bytes has, whole ones alone
+unfoldable pub elements : ℕ → List ℕ → List ℕ
+elements k s = upto (λ i. littleEndian k s (k * i)) (length s / k)
 
 -- the element at index i of a packed list of elements of 2, 4 and 8 bytes
 abbrev pub u16At : List ℕ → ℕ → ℕ

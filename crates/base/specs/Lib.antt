@@ -1,5 +1,6 @@
 -- The root of base's definitions. The laws about them are in proofs/.
 pub mod Choice
+pub mod Text
 pub mod Lists
 pub mod Buffers
 pub mod Bytes

@@ -1,8 +1,10 @@
--- Lists of tests, and a list that begins with another.
+-- Lists of tests, parts of lists, and a list that begins with another.
 use mathlib.Core.Path.{_≡_}
 use mathlib.Core.Bool.{Bool, true, _&&_}
 use mathlib.Core.List.{List, [], _∷_, _++_}
 use mathlib.Core.Option.{Option, none, some}
+use Prim.Native.Nat.{ℕ}
+use lib.ListN.{take, drop}
 use Rattle.base.specs.Choice.{pick}
 
 -- every test passes
@@ -14,6 +16,15 @@ every (t ∷ ts) = t && every ts
 unfoldable pub firstFailing : {C : Type 0} → List (Bool × C) → Option C
 firstFailing [] = none
 firstFailing (c ∷ cs) = pick (c .0) (firstFailing cs) (some (c .1))
+
+-- the first of two causes, if there is one
+abbrev pub orNext : {C : Type 0} → Option C → Option C → Option C
+orNext none d = d
+orNext (some c) d = some c
+
+-- the n elements from place `at` on
+abbrev pub part : {A : Type 0} → List A → ℕ → ℕ → List A
+part s at n = take n (drop at s)
 
 -- t begins with all of s
 pub record Heads {A : Type 0} (s t : List A) : Type 0 where
