@@ -9,6 +9,7 @@ use borrow.Author.Tests.{leb-true, leb-false, lt-ltb, le-ltb, eq-eqb, ne-eqb}
 use lib.Dec.{T, leb, ltb, eqb, ltb→lt, lt→ltb, nltb→le, leb→le, nleb→lt, eqb→eq}
 use lib.IntN.{ℤ, pos, negℤ}
 use lib.Pow.{pow-pos, pow-lt}
+use lib.Signed.{mag}
 use lib.Ieee.{Float, nan, inf, fin, up, down, lt, eq, le, isNan, toUnsigned, toSigned}
 use lib.Ieee.Casts.{toSigned-in}
 use lib.Ieee.Fits.{down-pos, and-r}
@@ -16,7 +17,7 @@ use mir.Syntax.{Width}
 use mir.Val.{SFits, hbits, toZ, ofZ}
 use mir.ValLaws.{toZ-ofZ}
 
--- `le`, at two numbers that are not negative
+-- `le` of two numbers that are not negative
 le-test : (a b : ℕ) → (ltb a b || (eqb a b && true)) ≡ leb a b
 le-test a b = go (leb a b) refl
   where
@@ -24,6 +25,7 @@ le-test a b = go (leb a b) refl
     go true e = elim (eq-or-lt-of-le (leb-true a b e)) [ inl q ↦ rw (le-ltb a b (omega arith), eq-eqb a b q) | inr l ↦ rw (lt-ltb a b l) ]
     go false e = let l : b < a = leb-false a b e in rw (le-ltb a b (le-of-lt l), ne-eqb a b (omega arith))
 
+-- `le`, where `lt` holds
 lt-le : (x y : Float) → T (lt x y) → T (le x y)
 unfolding le
 lt-le x y t = go (lt x y) t
@@ -58,7 +60,7 @@ module _ (h m : ℕ) (e : ℤ) where
   unfolding le lt eq
   not-le t = omega (arith, power-pos, eqb→eq (1 * 2 ^ h * down e) 0 (and-r (eqb (1 * 2 ^ h * down e) (m * up e * 1)) (eqb (1 * 2 ^ h * down e) 0) t))
 
--- ---- signed, with h bits and a sign
+-- ---- signed, with h bits and a sign: from 2 ^ h up, below -2 ^ h, and between the two
 pub above : (h : ℕ) (x : Float) → T (le (fin false 1 (pos h)) x) → toSigned h x ≡ pos (2 ^ h - 1)
 unfolding toSigned
 above h nan t = unfold le in absurd t
@@ -104,31 +106,35 @@ module _ (h g : ℕ) (H : h < g) where
     lt→ltb 0 (m * up e * 1 + 1 * 2 ^ g * down e) (omega (arith, power-pos g m e)),
   )
 
--- an integer z of the width v, cast to the width w, where it is x as an integer of that width
-module _ (v w : Width) (x : Float) (z : ℤ) (Z : SFits v z) (e : z ≡ toSigned (hbits w) x) where
+-- an integer z of the width v, cast to the width w, where it is x as an integer of the width w
+module _ (v w : Width) (x : Float) (z : ℤ) (Z : mag z < 2 ^ hbits v) (e : z ≡ toSigned (hbits w) x) where
+  read-back : toZ v (ofZ v z) ≡ toSigned (hbits w) x
+  read-back = toZ-ofZ v z (record { sfits = Z }) ∙ e
+
   pub cast-fits : SFits w (toZ v (ofZ v z))
-  cast-fits = rw (toZ-ofZ v z Z, e) (record { sfits = toSigned-in (hbits w) x })
+  cast-fits = rw read-back (record { sfits = toSigned-in (hbits w) x })
 
   pub cast-is : toZ w (ofZ w (toZ v (ofZ v z))) ≡ toSigned (hbits w) x
-  cast-is = toZ-ofZ w (toZ v (ofZ v z)) cast-fits ∙ toZ-ofZ v z Z ∙ e
+  cast-is = toZ-ofZ w (toZ v (ofZ v z)) cast-fits ∙ read-back
 
--- ---- unsigned, with w bits
-pub top : (w : ℕ) (x : Float) → T (lt (fin true 1 (pos 0)) x) → T (not (lt x (fin false 1 (pos w)))) → toUnsigned w x ≡ 2 ^ w - 1
+-- ---- unsigned, with w bits: from 2 ^ w up; at -1 and less, and a NaN
+pub saturated : (w : ℕ) (x : Float) → T (lt (fin true 1 (pos 0)) x) → T (not (lt x (fin false 1 (pos w)))) → toUnsigned w x ≡ 2 ^ w - 1
 unfolding lt toUnsigned
-top w nan a b = absurd a
-top w (inf true) a b = absurd a
-top w (inf false) a b = refl
-top w (fin true m e) a b = omega (arith, power-pos w m e, nltb→le 0 (m * up e * 1 + 1 * 2 ^ w * down e) b)
-top w (fin false m e) a b = omega (arith, reaches w m e (nltb→le (m * up e * 1) (1 * 2 ^ w * down e) b))
+saturated w nan a b = absurd a
+saturated w (inf true) a b = absurd a
+saturated w (inf false) a b = refl
+saturated w (fin true m e) a b = omega (arith, power-pos w m e, nltb→le 0 (m * up e * 1 + 1 * 2 ^ w * down e) b)
+saturated w (fin false m e) a b = omega (arith, reaches w m e (nltb→le (m * up e * 1) (1 * 2 ^ w * down e) b))
 
-pub bottom : (w : ℕ) (x : Float) → T (not (lt (fin true 1 (pos 0)) x)) → toUnsigned w x ≡ 0
+pub negative : (w : ℕ) (x : Float) → T (not (lt (fin true 1 (pos 0)) x)) → toUnsigned w x ≡ 0
 unfolding lt toUnsigned
-bottom w nan a = refl
-bottom w (inf true) a = refl
-bottom w (inf false) a = absurd a
-bottom w (fin true m e) a = refl
-bottom w (fin false m e) a = omega (arith, power-pos 0 m e, nltb→le 0 (1 * 2 ^ 0 * down e + m * up e * 1) a)
+negative w nan a = refl
+negative w (inf true) a = refl
+negative w (inf false) a = absurd a
+negative w (fin true m e) a = refl
+negative w (fin false m e) a = omega (arith, power-pos 0 m e, nltb→le 0 (1 * 2 ^ 0 * down e + m * up e * 1) a)
 
+-- on either side of 2 ^ k
 module _ (k w : ℕ) (K : k < w) where
   pub at-least : (x : Float) → T (le (fin false 1 (pos k)) x) → 2 ^ k ≤ toUnsigned w x
   unfolding toUnsigned

@@ -17,17 +17,18 @@ use Rattle.float.proofs.Sign.{fields-of}
 use Rattle.float.proofs.Value.{subnormal-value, normal-value}
 use Rattle.float.proofs.Rounding.{closest-zero, closest-bound, rounded}
 
+-- `narrow` of a value of the size a / c
 pub narrow-value : (v : Float) (s : Bool) (a c : ℕ) → 0 < c → HasValue v s a c → narrow v ≡ round binary32 s a c
 unfolding narrow
 narrow-value nan s a c C h = absurd h
 narrow-value (inf t) s a c C h = absurd h
 narrow-value (fin t m e) s a c C h = rw (h .0) (round-same binary32 s (m * up e) (down e) a c (down-pos e) C (h .1))
 
--- the same number with another power of two below
+-- a fraction over another power of two
 shifted : (q a b c d : ℕ) → a + b ≡ c + d → q * 2 ^ a * 2 ^ b ≡ q * 2 ^ c * 2 ^ d
 shifted q a b c d e = rw (mul-assoc q (2 ^ a), mul-assoc q (2 ^ c), ← pow-add 2 a b, ← pow-add 2 c d, e)
 
--- the field x, with h digits cut off and k more dropped
+-- the field x and the digits t: h of the 53 digits are cut off, and the result's exponent is k
 field-rounds : (x t k h : ℕ) → t < 2 ^ 52 → 0 < x → (x ≡ 2047 → ⊥) → x + h ≡ k + 926 → 29 ≤ h → (0 < k → h ≡ 29)
     → narrow (ofFields binary64 false x t) ≡ ofBits binary32 (min (k * 2 ^ 23 + closest (2 ^ 52 + t) (2 ^ h)) (255 * 2 ^ 23))
 field-rounds x t k h H X N e g z =
@@ -36,6 +37,7 @@ field-rounds x t k h H X N e g z =
     ∙ round-same binary32 false (q * 2 ^ (x - 1)) (2 ^ 1074) (q * 2 ^ k) (2 ^ (149 + h)) (pow-pos 1074) (pow-pos (149 + h)) (shifted q (x - 1) (149 + h) k 1074 (omega arith))
     ∙ rounded q k h (omega arith) g (λ (p : 0 < k). rw (z p) (omega arith))
 
+-- less than half the smallest value
 vanishes : (q h : ℕ) → q < 2 ^ 53 → 54 ≤ h → ofBits binary32 (min (0 * 2 ^ 23 + closest q (2 ^ h)) (255 * 2 ^ 23)) ≡ ofBits binary32 0
 vanishes q h l g = let twice : q * 2 < 2 ^ 54 = omega arith in rw (closest-zero q (2 ^ h) (lt-of-lt-of-le twice (pow-mono g)))
 

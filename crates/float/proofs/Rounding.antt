@@ -9,10 +9,10 @@ use borrow.Author.Tests.{lt-leb, le-leb, eq-eqb, ne-eqb}
 use lib.Dec.{T, ltb, leb, eqb, isLe, isEq, ltb→lt, nltb→le, lit<, lit≤}
 use lib.Pow.{pow-add, pow-pos, pow-mono, shl-lt, shl-shr, shr-shr, shr-lt}
 use lib.Ieee.{inf, binary32, size, nearest, odd, units, round, ofBits}
+use lib.Ieee.Bits.{ofBits-toBits}
 use lib.Ieee.Digits.{size-lt, size-le}
 use lib.Ieee.Exact.{odd-sign}
 use lib.Ieee.Fits.{odd-fits, nearest-le, round-is, core}
-use lib.Ieee.Bits.{ofBits-toBits}
 use lib.Ieee.Nearest.{closest, closest-same, nearest-ge}
 use Rattle.float.proofs.Value.{weight, bits-of}
 
@@ -64,7 +64,7 @@ weighs-lt r k l g =
 
 -- a carry into the next digit
 weighs-eq : (k : ℕ) → weight binary32 (2 ^ 24 * 2 ^ k) ≡ k * 2 ^ 23 + 2 ^ 24
-weighs-eq k = ap (weight binary32) (halved (2 ^ k) (2 ^ suc k) (pow-suc 2 k)) ∙ weighs-lt (2 ^ 23) (suc k) (lit< tt) (λ (p : 0 < suc k). lit≤ tt) ∙ (omega arith)
+weighs-eq k = ap (weight binary32) (halved (2 ^ k) (2 ^ suc k) (pow-suc 2 k)) ∙ weighs-lt (2 ^ 23) (suc k) (lit< tt) (λ (p : 0 < suc k). lit≤ tt) ∙ omega arith
   where
     halved : (a b : ℕ) → b ≡ a * 2 → 2 ^ 24 * a ≡ 2 ^ 23 * b
     halved a b e = omega arith
@@ -72,7 +72,7 @@ weighs-eq k = ap (weight binary32) (halved (2 ^ k) (2 ^ suc k) (pow-suc 2 k)) �
 weighs : (r k : ℕ) → r ≤ 2 ^ 24 → (0 < k → 2 ^ 23 ≤ r) → weight binary32 (r * 2 ^ k) ≡ k * 2 ^ 23 + r
 weighs r k h g = elim (eq-or-lt-of-le h) [ inl e ↦ rw e (weighs-eq k) | inr l ↦ weighs-lt r k l g ]
 
--- where the result stays finite
+-- r * 2 ^ k is below 2 ^ 277 of them, where the result is finite, or not
 module _ (r k : ℕ) (h : r ≤ 2 ^ 24) (g : 0 < k → 2 ^ 23 ≤ r) where
   under : r * 2 ^ k < 2 ^ 277 → k * 2 ^ 23 + r ≤ 255 * 2 ^ 23
   under l =

@@ -3,9 +3,9 @@ use mathlib.Core.Path.{_≡_, refl, sym, ap, _∙_}
 use mathlib.Core.Bool.{Bool, true, false, cond}
 use Prim.Native.Nat.{ℕ, zero, suc, _+_, _-_, _*_, _/_, _%_, _^_, _<_}
 use native.Mathlib.Nat.{mod-eq-of-lt, mod-lt, mul-pos, zero-lt-suc, add-mod-left, le-add-right, dvd-mul-right, mod-mod-of-dvd}
-use lib.Pow.{pow-pos}
 use borrow.Author.Tests.{le-leb, lt-leb}
 use lib.Dec.{leb, ltb, eqb}
+use lib.Pow.{pow-pos}
 use lib.Ieee.{Float, nan, inf, fin, Format, binary32, prec, emax, low, up, down, odd, units, round, hid, ones, top, ofFields, ofBits}
 use Rattle.float.specs.Casts.{narrow}
 use Rattle.float.specs.Distance.{abs}
@@ -16,6 +16,7 @@ signed s nan = nan
 signed s (inf t) = inf s
 signed s (fin t m e) = fin s m e
 
+-- ---- rounding, and reading a pattern's fields, do the same with either sign
 module _ (s t : Bool) where
   odd-signed : (d q k l : ℕ) → odd d s q k l ≡ signed s (odd d t q k l)
   unfolding odd
@@ -53,7 +54,7 @@ abs-signed s nan = refl
 abs-signed s (inf t) = refl
 abs-signed s (fin t m e) = refl
 
--- ---- the sign's bit of a pattern
+-- ---- a pattern is its sign's bit and the rest
 top-pos : (f : Format) → 0 < top f
 top-pos f = mul-pos (pow-pos (prec f - 1)) (zero-lt-suc (ones f))
 
@@ -67,6 +68,7 @@ split f b =
     fields-signed (leb (top f) b) false f (b % top f / hid f) (b % hid f)
     ∙ ap (signed (leb (top f) b)) (ap (ofFields f false (b % top f / hid f)) (sym (mod-mod-of-dvd (hid f) b (dvd-mul-right (hid f) (suc (ones f))))) ∙ sym (fields-of f (b % top f) (mod-lt b (top-pos f))))
 
+-- without the sign's bit, and with it
 pub plus : (f : Format) (r : ℕ) → r < top f → ofBits f r ≡ signed false (ofBits f r)
 plus f r h = rw (lt-leb (top f) r h, mod-eq-of-lt h) at (split f r)
 

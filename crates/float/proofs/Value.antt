@@ -12,6 +12,7 @@ use lib.Ieee.Exact.{HasValue, odd-sign}
 use lib.Ieee.Fits.{down-pos}
 use lib.Ieee.Nearest.{div-same}
 
+-- an exponent's field of 0, and any other but the highest
 pub subnormal-value : (f : Format) (s : Bool) (t : ℕ) → HasValue (ofFields f s 0 t) s (t * 2 ^ 0) (2 ^ low f)
 unfolding ofFields
 subnormal-value f s t = odd-sign (prec f) s t 0 (low f)
@@ -25,6 +26,7 @@ normal-value f s (suc j) t p h = rw (ne-eqb (suc j) (ones f) h, sub-one (suc j))
 abbrev pub weight : Format → ℕ → ℕ
 weight f n = (size n - prec f) * hid f + n / 2 ^ (size n - prec f)
 
+-- the pattern of a value of the size a / c
 pub bits-of : (f : Format) (v : Float) (s : Bool) (a c : ℕ) → 0 < c → HasValue v s a c → toBits f v ≡ cond s (top f) 0 + weight f (a * 2 ^ low f / c)
 unfolding toBits
 bits-of f nan s a c C h = absurd h
@@ -34,6 +36,7 @@ bits-of f (fin t m e) s a c C h =
     let same : m * up e * l / down e ≡ a * l / c = div-same (m * up e * l) (down e) (a * l) c (down-pos e) C (mul-right-comm (m * up e) l c ∙ ap (λ (z : ℕ). z * l) (h .1) ∙ mul-right-comm a (down e) l) in
     rw (same, h .0, add-assoc)
 
+-- two values of one format that are the same number are equal
 pub same-value : (f : Format) (v w : Float) (s : Bool) (a c : ℕ) → 0 < c → T (fits f v) → T (fits f w) → HasValue v s a c → HasValue w s a c → v ≡ w
 same-value f v w s a c C p q h k =
     sym (ofBits-toBits f v p) ∙ ap (ofBits f) (bits-of f v s a c C h ∙ sym (bits-of f w s a c C k)) ∙ ofBits-toBits f w q

@@ -1,9 +1,9 @@
--- Rust's `as` between floats and integers, where lib.Ieee has no name for it.
--- Its `toSigned h`, `toUnsigned w`, `ofInt`, `ofBits` and `toBits` are Rust's `as` to a signed integer of h bits and a sign, `as` to an unsigned one of w bits, `as` to a float, `from_bits` and `to_bits`.
+-- Casts that lib.Ieee has no name for. The contracts also cite its own `toSigned 15`, `toSigned 31` and `toUnsigned 64` (Rust's `as i16`, `as i32`, `as usize`),
+-- `ofInt binary32` (`as f32` of an integer), `ofBits binary32` (`f32::from_bits`) and `toBits binary32` (`to_bits`, with 0x7FC00000 for the NaN).
 use Prim.Native.Nat.{ℕ, _*_, min}
 use lib.Ieee.{Float, nan, inf, fin, binary32, up, down, round, toUnsigned}
 
--- `x as f32`: the nearest f32, a tie to the even one, an infinity where x is too large; -0 and NaN stay
+-- `x as f32` of an f64: the nearest, a tie to the even one, an infinity where x is too large; -0 stays -0, and a NaN a NaN
 unfoldable pub narrow : Float → Float
 narrow nan = nan
 narrow (inf s) = inf s

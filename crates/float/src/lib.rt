@@ -1,4 +1,4 @@
-// Casts between floats and integers as Rust's `as` has them, an f32 by its bit pattern, and which of two floats is nearer. Each takes every value.
+// Casts between floats and integers as Rust's `as` has them, an f32 by its bit pattern, and which of two floats is nearer. Each public function takes every value.
 ghost use mathlib.Core.Path.{_≡_};
 ghost use Prim.Native.Nat.{_*_, _^_, _≤_, _<_};
 ghost use lib.IntN.{pos};
@@ -31,12 +31,15 @@ fn narrowed(bits: u64) -> u32
 {
     let exponent = bits / 4503599627370496;
     let digits = 4503599627370496 + bits % 4503599627370496;
+    // below 2^-151, which is less than half the smallest f32
     if exponent < 872 {
         return 0;
     }
+    // below 2^-126, where an f32 has fewer digits
     if exponent < 897 {
         return rounded_shift(digits, 926 - exponent) as u32;
     }
+    // a carry out of the digits adds one to the exponent
     let pattern = (exponent - 897) * 8388608 + rounded_shift(digits, 29);
     if pattern < 2139095040 {
         return pattern as u32;

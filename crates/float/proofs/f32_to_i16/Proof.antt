@@ -26,10 +26,10 @@ unfolding ofBits neg
 value c = c .f32-to-i32 .ensures ∙ within 15 31 (lit< tt) (c .before .before .before .args .x) (no (c .before .before .if1 .left)) (no (c .before .if2 .left))
 
 cast-result : tie.Need-cast-result
-cast-result c = cast-fits w32 w16 (c .before .before .before .args .x) (c .f32-to-i32 .result) (record { sfits = c .f32-to-i32 .ok }) (value c)
+cast-result c = cast-fits w32 w16 (c .before .before .before .args .x) (c .f32-to-i32 .result) (c .f32-to-i32 .ok) (value c)
 
 returns-3 : tie.Need-returns-3
-returns-3 c = cast-is w32 w16 (c .before .before .before .args .x) (c .f32-to-i32 .result) (record { sfits = c .f32-to-i32 .ok }) (value c)
+returns-3 c = cast-is w32 w16 (c .before .before .before .args .x) (c .f32-to-i32 .result) (c .f32-to-i32 .ok) (value c)
 
 pub f32-to-i16-spec : {M : Type 1} → statement M
 f32-to-i16-spec = tie.close (tie.spec returns returns-2 f32-to-i32-requires cast-result returns-3)

@@ -32,10 +32,10 @@ unfolding ofBits neg
 value c = c .truncating-f32-to-i64 .ensures ∙ within 31 63 (lit< tt) (c .before .before .before .before .args .x) (no (c .before .before .if2 .left)) (no (c .before .if3 .left))
 
 cast-result : tie.Need-cast-result
-cast-result c = cast-fits w64 w32 (c .before .before .before .before .args .x) (c .truncating-f32-to-i64 .result) (record { sfits = c .truncating-f32-to-i64 .ok }) (value c)
+cast-result c = cast-fits w64 w32 (c .before .before .before .before .args .x) (c .truncating-f32-to-i64 .result) (c .truncating-f32-to-i64 .ok) (value c)
 
 returns-4 : tie.Need-returns-4
-returns-4 c = cast-is w64 w32 (c .before .before .before .before .args .x) (c .truncating-f32-to-i64 .result) (record { sfits = c .truncating-f32-to-i64 .ok }) (value c)
+returns-4 c = cast-is w64 w32 (c .before .before .before .before .args .x) (c .truncating-f32-to-i64 .result) (c .truncating-f32-to-i64 .ok) (value c)
 
 pub f32-to-i32-spec : {M : Type 1} → statement M
 f32-to-i32-spec =

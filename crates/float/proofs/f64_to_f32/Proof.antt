@@ -33,7 +33,7 @@ result c =
     ∙ ap (signed (leb (2 ^ 63) b)) (sym (c .narrowed .ensures .1))
 
 float-from-bits-result : tie.Need-float-from-bits-result
-float-from-bits-result c = no-nan-bits binary32 (c .before .narrowed .result) (omega (arith, c .before .narrowed .ensures .0))
+float-from-bits-result c = no-nan-bits binary32 (c .before .narrowed .result) (omega arith)
 
 returns-2 : tie.Need-returns-2
 returns-2 c = plus binary32 (c .before .narrowed .result) (omega arith) ∙ sym (rw (lt-leb _ _ (c .if2 .taken)) at (result (c .before)))
