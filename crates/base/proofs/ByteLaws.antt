@@ -126,7 +126,7 @@ elements-flat k ws hk small =
     let l : length (flat (bytesOf k) ws) ≡ k * length ws = length-flat (bytesOf k) k (length-bytesOf k) ws in
     let n : length (flat (bytesOf k) ws) / k ≡ length ws = ap (λ (m : ℕ). m / k) l ∙ mul-div-cancel-left (length ws) hk in
     rw n (upto-is (λ i. littleEndian k (flat (bytesOf k) ws) (k * i)) ws 0 (λ i h.
-      ap (λ (s : List ℕ). littleEndian k s (k * i)) (sym (append-nil (flat (bytesOf k) ws))) ∙ littleEndian-flat k ws [] i h ∙ mod-eq-of-lt (small i)))
+    ap (λ (s : List ℕ). littleEndian k s (k * i)) (sym (append-nil (flat (bytesOf k) ws))) ∙ littleEndian-flat k ws [] i h ∙ mod-eq-of-lt (small i)))
 
 -- ---- what was read is written back
 

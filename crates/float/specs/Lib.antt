@@ -1,0 +1,3 @@
+-- The root of float's definitions.
+pub mod Casts
+pub mod Distance

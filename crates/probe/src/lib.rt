@@ -1,0 +1,113 @@
+// Leaf functions, exported so that the comparison with the Rust can call them.
+ghost use mathlib.Core.Path.{_≡_};
+ghost use Prim.Native.Nat.{_*_, _%_, _^_};
+ghost use lib.IntN.{pos};
+ghost use lib.Ieee.{binary32, ofBits, toBits, ofInt, toSigned, toUnsigned};
+ghost use lib.Signed.{quotZ};
+ghost use Rattle.base.specs.Words.{low, signed32};
+ghost use Rattle.float.specs.Casts.{narrow, clamped};
+ghost use Rattle.float.specs.Distance.{nearer};
+
+// Rust's `x as f32`.
+#[no_mangle]
+pub extern "C" fn probe_f64_to_f32(x: f64) -> f32
+    ensures { λ r. ⌜ r ≡ narrow x ⌝ }
+{
+    float::f64_to_f32(x)
+}
+
+// Rust's `x as i16`.
+#[no_mangle]
+pub extern "C" fn probe_f32_to_i16(x: f32) -> i16
+    ensures { λ r. ⌜ r ≡ toSigned 15 x ⌝ }
+{
+    float::f32_to_i16(x)
+}
+
+// Rust's `x as i32`.
+#[no_mangle]
+pub extern "C" fn probe_f32_to_i32(x: f32) -> i32
+    ensures { λ r. ⌜ r ≡ toSigned 31 x ⌝ }
+{
+    float::f32_to_i32(x)
+}
+
+// Rust's `x as usize`.
+#[no_mangle]
+pub extern "C" fn probe_f32_to_usize(x: f32) -> usize
+    ensures { λ r. ⌜ r ≡ toUnsigned 64 x ⌝ }
+{
+    float::f32_to_usize(x)
+}
+
+// Rust's `x as usize`.
+#[no_mangle]
+pub extern "C" fn probe_f64_to_usize(x: f64) -> usize
+    ensures { λ r. ⌜ r ≡ toUnsigned 64 x ⌝ }
+{
+    float::f64_to_usize(x)
+}
+
+// Rust's `(x as usize).min(16777216)`.
+#[no_mangle]
+pub extern "C" fn probe_f32_to_usize_clamped(x: f32) -> usize
+    ensures { λ r. ⌜ r ≡ clamped x ⌝ }
+{
+    float::f32_to_usize_clamped(x)
+}
+
+// Rust's `(x as usize).min(16777216)`.
+#[no_mangle]
+pub extern "C" fn probe_f64_to_usize_clamped(x: f64) -> usize
+    ensures { λ r. ⌜ r ≡ clamped x ⌝ }
+{
+    float::f64_to_usize_clamped(x)
+}
+
+// Rust's `f32::from_bits(word)`.
+#[no_mangle]
+pub extern "C" fn probe_f32_from_word(word: u32) -> f32
+    ensures { λ r. ⌜ r ≡ ofBits binary32 word ⌝ }
+{
+    float::f32_from_word(word)
+}
+
+// Rust's `x.to_bits()`.
+#[no_mangle]
+pub extern "C" fn probe_f32_to_word(x: f32) -> u32
+    ensures { λ r. ⌜ r ≡ toBits binary32 x ⌝ }
+{
+    float::f32_to_word(x)
+}
+
+// Rust's `n as f32`.
+#[no_mangle]
+pub extern "C" fn probe_u32_to_f32(n: u32) -> f32
+    ensures { λ r. ⌜ r ≡ ofInt binary32 (pos n) ⌝ }
+{
+    float::u32_to_f32(n)
+}
+
+// Rust's `(p - a).abs() < (p - b).abs()`.
+#[no_mangle]
+pub extern "C" fn probe_is_nearer(p: f32, a: f32, b: f32) -> bool
+    ensures { λ r. ⌜ r ≡ nearer p a b ⌝ }
+{
+    float::is_nearer(p, a, b)
+}
+
+// Rust's `a.wrapping_mul(b)`.
+#[no_mangle]
+pub extern "C" fn probe_wrapping_mul(a: u32, b: u32) -> u32
+    ensures { λ r. ⌜ r ≡ (a * b) % 2 ^ 32 ⌝ }
+{
+    base::words::wrapping_mul(a, b)
+}
+
+// Rust's `(word as i32 / 16384) as u32`.
+#[no_mangle]
+pub extern "C" fn probe_divide_by_16384(word: u32) -> u32
+    ensures { λ r. ⌜ r ≡ low 32 (quotZ (signed32 word) (pos 16384)) ⌝ }
+{
+    base::words::divide_by_16384(word)
+}
