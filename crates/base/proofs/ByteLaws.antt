@@ -72,6 +72,12 @@ sets-join j k v s at =
     let e : at + j ≡ at + length (bytesOf j v) = rw length-bytesOf in
     rw (bytesOf-low, e, ← sets-append, ← bytesOf-join)
 
+-- the same bytes are the same number
+pub littleEndian-same : (k : ℕ) (s t : List ℕ) (at : ℕ) → ((j : ℕ) → at ≤ j → j < at + k → getD s j 0 ≡ getD t j 0) → littleEndian k s at ≡ littleEndian k t at
+unfolding littleEndian
+littleEndian-same zero s t at e = refl
+littleEndian-same (suc k) s t at e = rw (e at (omega arith) (omega arith), littleEndian-same k s t (suc at) (λ j l m. e j (omega arith) (omega arith)))
+
 -- ---- read after a front
 
 littleEndian-cons : (k x : ℕ) (s : List ℕ) (at : ℕ) → littleEndian k (x ∷ s) (suc at) ≡ littleEndian k s at

@@ -2,7 +2,7 @@
 use mathlib.Core.Path.{_≡_, refl, sym, ap, _∙_}
 use mathlib.Core.Bool.{Bool, true, false, _&&_}
 use mathlib.Core.List.{List, [], _∷_, _++_, append-assoc, append-nil}
-use Prim.Native.Nat.{ℕ, _+_, _≤_, _<_}
+use Prim.Native.Nat.{ℕ, zero, suc, _+_, _≤_, _<_}
 use lib.ListN.{length, drop, getD, length-drop}
 use lib.Seq.{getD-take, getD-drop, length-take-le}
 use native.Mathlib.Omega.{arith}
@@ -20,17 +20,16 @@ and-right true b e = e
 and-right false true e = refl
 and-right false false e = e
 
-pub every-head : (t : Bool) (ts : List Bool) → every (t ∷ ts) ≡ true → t ≡ true
-unfolding every
-every-head t ts e = and-left t (every ts) e
-
-pub every-tail : (t : Bool) (ts : List Bool) → every (t ∷ ts) ≡ true → every ts ≡ true
-unfolding every
-every-tail t ts e = and-right t (every ts) e
-
 pub every-cons : (t : Bool) (ts : List Bool) → t ≡ true → every ts ≡ true → every (t ∷ ts) ≡ true
 unfolding every
 every-cons t ts e f = rw (e, f)
+
+-- each test passes, by its place
+pub every-at : (ts : List Bool) → every ts ≡ true → (k : ℕ) → getD ts k true ≡ true
+unfolding every
+every-at [] e k = refl
+every-at (t ∷ ts) e zero = and-left t (every ts) e
+every-at (t ∷ ts) e (suc k) = every-at ts (and-right t (every ts) e) k
 
 -- ---- the first failing test
 

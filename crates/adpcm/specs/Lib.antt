@@ -1,0 +1,2 @@
+-- The root of adpcm's definitions.
+pub mod Decoder

@@ -1,0 +1,2 @@
+-- The root of adpcm_float's definitions.
+pub mod Floating

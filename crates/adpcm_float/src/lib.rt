@@ -1,0 +1,1 @@
+// G.726's floating format: FLOATA, FLOATB, FMULT.

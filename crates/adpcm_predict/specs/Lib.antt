@@ -1,0 +1,2 @@
+-- The root of adpcm_predict's definitions.
+pub mod Predictor

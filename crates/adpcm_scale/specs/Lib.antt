@@ -1,0 +1,2 @@
+-- The root of adpcm_scale's definitions.
+pub mod Scale

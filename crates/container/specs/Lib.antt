@@ -1,0 +1,2 @@
+-- The root of container's definitions.
+pub mod Sections

@@ -1,0 +1,147 @@
+-- Document 01: what a call refuses, answers and leaves in its lent buffers. Each buffer is a list of bytes; an element of the index has 8, of marks
+-- and sizes 4, of rows 2, of excitation and decode buffer 1, little-endian.
+use mathlib.Core.Bool.{Bool, false}
+use mathlib.Core.List.{List, [], _∷_}
+use mathlib.Core.Option.{Option, none, some}
+use Prim.Native.Nat.{ℕ, _*_, _/_}
+use lib.Dec.{ltb, leb}
+use lib.IntN.{pos}
+use lib.ListN.{length}
+use lib.Ieee.{fin}
+use Rattle.base.specs.Choice.{pick}
+use Rattle.base.specs.Lists.{every, orNext}
+use Rattle.base.specs.Buffers.{over, flat}
+use Rattle.base.specs.Bytes.{bytesOf}
+use Rattle.refusal.specs.declared.Refusal.{Refusal}
+use Rattle.refusal.specs.declared.Refusal.the-variants.{ShortBuffer}
+use Rattle.refusal.specs.Number.{numberOf}
+use Rattle.voice.specs.declared.Codec.{Codec}
+use Rattle.voice.specs.declared.Codec.the-variants.{Ulaw, G721}
+use Rattle.voice.specs.Header.{codecOf}
+use Rattle.voice.specs.Voice.{Voice, voiceOf, sortedIndex}
+use Rattle.voice.specs.Periods.{residualOf, longest}
+use Rattle.voice.specs.Opening.{openingRefusal}
+use Rattle.sheet.specs.Sheet.{Sheet, sheetOf, sheetRefusal}
+use Rattle.excitation.specs.Source.{decodedBy}
+use Rattle.excitation.specs.Taken.{Period}
+use Rattle.lpc.specs.declared.ResynthType.the-variants.{Fixed}
+use Rattle.lpc.specs.declared.FilterState.{FilterState}
+use Rattle.lpc.specs.State.{freshState}
+use Rattle.diphone.specs.declared.Settings.{Settings}
+use Rattle.diphone.specs.declared.Summary.{Summary}
+use Rattle.diphone.specs.declared.Called.{Called}
+use Rattle.diphone.specs.declared.Called.the-variants.{Spoken, Refused}
+use Rattle.diphone.specs.declared.Planned.{Planned}
+use Rattle.diphone.specs.Call.{planOf, periodsTaken, sizesOf, rowsOf, excitationOf}
+
+pub record Buffers : Type 0 where
+  pub index : List ℕ
+  pub marks : List ℕ
+  pub sizes : List ℕ
+  pub rows : List ℕ
+  pub excitation : List ℕ
+  pub decoded : List ℕ
+
+-- ---- what a call fills
+
+-- 'Each taken period of size above 0 is decoded to its front, over the one before': what of the decode buffer is written
+unfoldable pub decodedOver : Voice → List ℕ → List Period → List ℕ
+decodedOver v front [] = front
+decodedOver v front (p ∷ ps) =
+    decodedOver v (pick (ltb 0 (p .size)) (over (decodedBy (codecOf (v .header)) (residualOf v (p .number))) front) front) ps
+
+-- 'A call also fills the sorted index, every mark made, and for the taken periods the sizes, the row .. and the excitation': the bytes, buffer by buffer
+unfoldable pub filled : Voice → Sheet → Settings → Buffers
+filled v s o =
+    let ps = periodsTaken v s o in
+    record {
+      index = flat (bytesOf 8) (sortedIndex v);
+      marks = flat (bytesOf 4) (planOf v s o .marks);
+      sizes = flat (bytesOf 4) (sizesOf ps);
+      rows = flat (bytesOf 2) (rowsOf ps);
+      excitation = excitationOf ps;
+      decoded = decodedOver v [] ps;
+    }
+
+-- ---- 13: a buffer lent is shorter than stated
+
+-- 'In every call the G.721 decode buffer needs twice the bytes of the voice's longest period (0 for mu-law)'
+abbrev pub decodeRoomBy : Codec → ℕ → ℕ
+decodeRoomBy Ulaw n = 0
+decodeRoomBy G721 n = 2 * n
+
+unfoldable pub decodeRoom : Voice → ℕ
+decodeRoom v = decodeRoomBy (codecOf (v .header)) (longest v (v .header .frames))
+
+-- each buffer has as many whole elements as the call fills, and the decode buffer its room
+unfoldable pub fits : Voice → Sheet → Settings → Buffers → Bool
+fits v s o b =
+    let ps = periodsTaken v s o in
+    every
+    (leb (length (sortedIndex v)) (length (b .index) / 8)
+    ∷ leb (length (planOf v s o .marks)) (length (b .marks) / 4)
+    ∷ leb (length (sizesOf ps)) (length (b .sizes) / 4)
+    ∷ leb (length (rowsOf ps)) (length (b .rows) / 2)
+    ∷ leb (length (excitationOf ps)) (length (b .excitation))
+    ∷ leb (decodeRoom v) (length (b .decoded))
+    ∷ [])
+
+-- ---- the call
+
+-- what refuses a call apart from its buffers: 'A call itself opens the voice and reads the sheet so, then reports target ends .., then marks ..'
+unfoldable pub checkRefusal : List ℕ → List ℕ → Settings → Option Refusal
+checkRefusal file sheet o = orNext (openingRefusal file) (orNext (sheetRefusal sheet) (planOf (voiceOf file) (sheetOf sheet) o .refusal))
+
+-- '.. then 13, in a call the sorted index's too'
+unfoldable pub callRefusal : List ℕ → List ℕ → Settings → Buffers → Option Refusal
+callRefusal file sheet o b = orNext (checkRefusal file sheet o) (pick (fits (voiceOf file) (sheetOf sheet) o b) none (some ShortBuffer))
+
+unfoldable pub summaryOf : Voice → Sheet → Settings → Summary
+summaryOf v s o =
+    let ps = periodsTaken v s o in
+    record {
+      rate = v .header .rate;
+      periods = length ps;
+      samples = length (excitationOf ps);
+      marks = length (planOf v s o .marks);
+      order = v .header .order;
+      entries = length (v .entries);
+    }
+
+-- a call's fresh state, and the state that comes with a refusal
+unfoldable pub freshOf : Voice → Settings → FilterState
+freshOf v o = freshState (o .filter) (v .header .order) (v .header .«coeff_min») (v .header .«coeff_range»)
+
+unfoldable pub zeroState : FilterState
+zeroState = freshState Fixed 0 (fin false 0 (pos 0)) (fin false 0 (pos 0))
+
+abbrev pub answerBy : Voice → Sheet → Settings → Option Refusal → Planned
+answerBy v s o none = record { answer = Spoken (summaryOf v s o); state = freshOf v o }
+answerBy v s o (some r) = record { answer = Refused r; state = zeroState }
+
+unfoldable pub plannedOf : List ℕ → List ℕ → Settings → Buffers → Planned
+plannedOf file sheet o b = answerBy (voiceOf file) (sheetOf sheet) o (callRefusal file sheet o b)
+
+-- every byte of each buffer afterwards: 'Elements beyond that remain', and a refusal leaves all
+abbrev pub overAll : Buffers → Buffers → Buffers
+overAll new old =
+    record {
+      index = over (new .index) (old .index);
+      marks = over (new .marks) (old .marks);
+      sizes = over (new .sizes) (old .sizes);
+      rows = over (new .rows) (old .rows);
+      excitation = over (new .excitation) (old .excitation);
+      decoded = over (new .decoded) (old .decoded);
+    }
+
+abbrev pub leftBy : Buffers → Buffers → Option Refusal → Buffers
+leftBy new old none = overAll new old
+leftBy new old (some r) = old
+
+unfoldable pub buffersAfter : List ℕ → List ℕ → Settings → Buffers → Buffers
+buffersAfter file sheet o b = leftBy (filled (voiceOf file) (sheetOf sheet) o) b (callRefusal file sheet o b)
+
+-- document 01's number for a call's answer: 0 where it is spoken
+abbrev pub calledNumber : Called → ℕ
+calledNumber (Spoken x) = 0
+calledNumber (Refused r) = numberOf r

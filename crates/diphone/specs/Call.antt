@@ -1,0 +1,82 @@
+-- Document 01: the call. What it gives is defined for every voice and sheet; what refuses it stands beside that.
+use mathlib.Core.Bool.{true, false}
+use mathlib.Core.List.{List, [], map}
+use mathlib.Core.Option.{Option, none}
+use Prim.Native.Nat.{ℕ}
+use lib.Dec.{ltb}
+use lib.ListN.{length}
+use Rattle.base.specs.Lists.{orNext}
+use Rattle.base.specs.Buffers.{flat}
+use Rattle.refusal.specs.declared.Refusal.{Refusal}
+use Rattle.voice.specs.Voice.{Voice}
+use Rattle.sheet.specs.declared.Target.{Target}
+use Rattle.sheet.specs.Sheet.{SegmentRead, Sheet}
+use Rattle.units.specs.declared.Unit.{Unit}
+use Rattle.units.specs.Selecting.{folded}
+use Rattle.units.specs.Units.{unitsOf, endRefusal}
+use Rattle.marks.specs.PitchMarks.{pitchMarks, mostMarks}
+use Rattle.marks.specs.NaturalMarks.{naturalMarks, naturalUnits, markRefusal}
+use Rattle.excitation.specs.Taken.{Period, taken}
+use Rattle.lpc.specs.Filter.{Part, cut}
+use Rattle.lpc.specs.State.{periodsBy}
+use Rattle.diphone.specs.declared.JoinType.{JoinType}
+use Rattle.diphone.specs.declared.JoinType.the-variants.{None, Simple, ModifiedLpc}
+use Rattle.diphone.specs.declared.Settings.{Settings}
+
+-- ---- the units and the marks of a join
+
+-- units with their target ends, marks, and the refusal that these bring about
+pub record Plan : Type 0 where
+  pub refusal : Option Refusal
+  pub units : List Unit
+  pub marks : List ℕ
+
+abbrev pub emptyPlan : Plan
+emptyPlan = record { refusal = none; units = []; marks = [] }
+
+-- 'The simple join sums period samples and ignores ends and targets'
+unfoldable pub simplePlan : Voice → List Unit → Plan
+simplePlan v us = record { refusal = markRefusal mostMarks (naturalMarks v 0 us); units = naturalUnits v 0 us; marks = naturalMarks v 0 us }
+
+-- 'reports target ends in unit order, then marks in the order made'
+unfoldable pub modifiedPlan : Voice → List Unit → List Target → Plan
+modifiedPlan v us ts =
+    let made = pitchMarks (v .header .rate) ts in
+    record { refusal = orNext (endRefusal us) (made .refusal); units = us; marks = made .marks }
+
+-- the plan of two segments or more, folded already
+unfoldable pub planBy : JoinType → Voice → List SegmentRead → List Target → Plan
+planBy None v ss ts = emptyPlan
+planBy Simple v ss ts = simplePlan v (unitsOf v ss)
+planBy ModifiedLpc v ss ts = modifiedPlan v (unitsOf v ss) ts
+
+-- 'Join none, or fewer than two segments, gives zero periods with no mark made'
+unfoldable pub planOf : Voice → Sheet → Settings → Plan
+planOf v s o = elim (ltb (length (s .segments)) 2) [ true ↦ emptyPlan | false ↦ planBy (o .join) v (folded (o .fold) (s .segments)) (s .targets) ]
+
+-- ---- the periods taken, and their samples
+
+unfoldable pub periodsTaken : Voice → Sheet → Settings → List Period
+periodsTaken v s o = taken v (planOf v s o .units) (planOf v s o .marks)
+
+-- 'for the taken periods the sizes, the row of order values q each as stored, and the excitation'
+unfoldable pub sizesOf : List Period → List ℕ
+sizesOf ps = map (λ (p : Period). p .size) ps
+
+unfoldable pub rowsOf : List Period → List ℕ
+rowsOf ps = flat (λ (p : Period). p .row) ps
+
+unfoldable pub excitationOf : List Period → List ℕ
+excitationOf ps = flat (λ (p : Period). p .bytes) ps
+
+-- what the filter is lent, cut into periods
+abbrev pub partsOf : Voice → List Period → List Part
+partsOf v ps = cut (v .header .order) (sizesOf ps) (rowsOf ps) (excitationOf ps)
+
+-- the periods of samples of a call, each sample a word of 16 bits
+unfoldable pub periodsOf : Voice → Sheet → Settings → List (List ℕ)
+periodsOf v s o = periodsBy (o .filter) (v .header .«coeff_min») (v .header .«coeff_range») (partsOf v (periodsTaken v s o))
+
+-- all samples of a call
+unfoldable pub samplesOfCall : Voice → Sheet → Settings → List ℕ
+samplesOfCall v s o = flat (λ (p : List ℕ). p) (periodsOf v s o)

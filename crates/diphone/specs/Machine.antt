@@ -1,0 +1,62 @@
+-- Document 01: a spoken call's pulls, and demand 3's plain machine.
+use mathlib.Core.List.{List, [], _∷_}
+use Prim.Native.Nat.{ℕ, _+_, _*_, _/_}
+use lib.Dec.{eqb, ltb}
+use lib.ListN.{length, getD, take}
+use Rattle.base.specs.Choice.{pick}
+use Rattle.base.specs.Buffers.{over, flat}
+use Rattle.base.specs.Bytes.{bytesOf}
+use Rattle.refusal.specs.declared.Refusal.the-variants.{ShortSlice}
+use Rattle.lpc.specs.declared.FilterState.{FilterState}
+use Rattle.diphone.specs.declared.Answer.{Answer}
+use Rattle.diphone.specs.declared.Answer.the-variants.{Given, Done, Refused}
+use Rattle.diphone.specs.Pull.{Lent, pullOf}
+
+-- what one pull shows of itself: its answer, and every byte of its slice afterwards
+pub record Shown : Type 0 where
+  pub answer : Answer
+  pub slice : List ℕ
+
+-- Pulls one after the other, a slice each: 'each other the state the last one returned or left'.
+unfoldable pub pulls : FilterState → Lent → List (List ℕ) → List Shown
+pulls s l [] = []
+pulls s l (d ∷ ds) =
+    let o = pullOf s l d in
+    record { answer = o .pulled .answer; slice = o .slice } ∷ pulls (o .pulled .state) l ds
+
+-- The plain machine 'holds the periods of samples .. and a count. A pull shows it only its slice: if all periods are counted, it says done; if the
+-- slice is shorter than the next period, it refuses with 14; else it gives that period, writing its samples to the slice's front, and counts it.'
+unfoldable pub machine : List (List ℕ) → ℕ → List (List ℕ) → List Shown
+machine ps k [] = []
+machine ps k (d ∷ ds) =
+    let p = getD ps k [] in
+    pick (eqb k (length ps)) (record { answer = Done; slice = d } ∷ machine ps k ds)
+    (pick (ltb (length d / 2) (length p)) (record { answer = Refused ShortSlice; slice = d } ∷ machine ps k ds)
+    (record { answer = Given (length p); slice = over (flat (bytesOf 2) p) d } ∷ machine ps (k + 1) ds))
+
+-- ---- what a list of pulls wrote
+
+-- the bytes that one pull gave, and whether it gave
+abbrev pub gaveBytes : Answer → List ℕ → List ℕ
+gaveBytes (Given n) d = take (2 * n) d
+gaveBytes Done d = []
+gaveBytes (Refused r) d = []
+
+abbrev pub gaveCount : Answer → ℕ
+gaveCount (Given n) = 1
+gaveCount Done = 0
+gaveCount (Refused r) = 0
+
+-- 'what they wrote, joined in order'
+unfoldable pub written : List Shown → List ℕ
+written os = flat (λ (o : Shown). gaveBytes (o .answer) (o .slice)) os
+
+-- 'as many periods as they gave'
+unfoldable pub given : List Shown → ℕ
+given [] = 0
+given (o ∷ os) = gaveCount (o .answer) + given os
+
+-- some pull said done
+pub data SaysDone : List Shown → Type 0 where
+  here : {d : List ℕ} {os : List Shown} → SaysDone (record { answer = Done; slice = d } ∷ os)
+  there : {o : Shown} {os : List Shown} → SaysDone os → SaysDone (o ∷ os)

@@ -1,0 +1,4 @@
+-- The root of excitation's definitions.
+pub mod Source
+pub mod Nearest
+pub mod Taken

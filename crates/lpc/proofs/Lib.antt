@@ -1,0 +1,4 @@
+-- Laws about lpc's definitions.
+pub mod FilterLaws
+pub mod RingLaws
+pub mod StateLaws

@@ -1,0 +1,6 @@
+-- The root of lpc's definitions.
+pub mod Filter
+pub mod Fixed
+pub mod Floating
+pub mod Ring
+pub mod State

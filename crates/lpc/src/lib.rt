@@ -1,0 +1,22 @@
+// The LPC synthesis filter, fixed and float, one pitch period at a time.
+
+// Which arithmetic the filter uses.
+pub enum ResynthType {
+    Fixed,
+    Float,
+}
+
+// A filter between two periods: the number of the next period and where its excitation begins; the
+// last outputs in a ring of order + 1 places, of which `ring_place` is written next. `fixed` has the
+// ring of the fixed filter, as words, `float` that of the float filter.
+pub struct FilterState {
+    pub filter: ResynthType,
+    pub order: usize,
+    pub ring_place: usize,
+    pub period: usize,
+    pub sample_place: usize,
+    pub coeff_min: f32,
+    pub coeff_range: f32,
+    pub fixed: [u32; 33],
+    pub float: [f32; 33],
+}

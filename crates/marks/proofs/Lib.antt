@@ -1,0 +1,2 @@
+-- Laws about marks' definitions.
+pub mod MarkLaws

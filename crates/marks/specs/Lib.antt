@@ -1,0 +1,3 @@
+-- The root of marks' definitions.
+pub mod PitchMarks
+pub mod NaturalMarks

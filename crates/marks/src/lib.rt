@@ -1,0 +1,1 @@
+// Pitch marks: where each output period ends, in samples.

@@ -1,0 +1,2 @@
+-- The root of phoneset's definitions.
+pub mod Phones

@@ -1,0 +1,2 @@
+-- The root of refusal's definitions.
+pub mod Number

@@ -1,0 +1,2 @@
+-- Laws about sheet's definitions.
+pub mod SheetLaws

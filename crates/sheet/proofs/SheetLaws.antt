@@ -1,0 +1,88 @@
+-- A sheet that is read has its followers among its own segments.
+use mathlib.Core.Path.{_≡_, refl, ap, subst}
+use mathlib.Core.Bool.{Bool, true, false}
+use mathlib.Core.List.{List, [], _∷_}
+use Prim.Native.Nat.{ℕ, zero, suc, _≤_}
+use native.Mathlib.Omega.{arith}
+use borrow.Author.Tests.{ltb-false}
+use lib.Dec.{ltb}
+use lib.ListN.{length}
+use Rattle.refusal.specs.declared.Refusal.{Refusal}
+use Rattle.refusal.specs.declared.Refusal.the-variants.{BadSheet}
+use Rattle.sheet.specs.Sheet.{SegmentRead, Sheet, Got, fails, gets, _andThen_, malformedIf, segment, repeated, sheetFrom, sheetIn, sheetOf}
+
+-- the followers are at most n
+pub data Refers (n : ℕ) : List SegmentRead → Type 0 where
+  nil : Refers n []
+  cons : {s : SegmentRead} {ss : List SegmentRead} → s .follower ≤ n → Refers n ss → Refers n (s ∷ ss)
+
+-- what came of the first of two readings
+record Came {A B : Type 0} (g : Got A) (f : A → List ℕ → Got B) (b : B) (r : List ℕ) : Type 0 where
+  value : A
+  rest : List ℕ
+  is : g ≡ gets value rest
+  after : f value rest ≡ gets b r
+
+refused-got : {A : Type 0} (c : Refusal) (a : A) (r : List ℕ) → fails c ≡ gets a r → ⊥
+refused-got c a r e = let z : _≡_ {A = ℕ} 0 1 = cc in omega arith
+
+came : {A B : Type 0} (g : Got A) (f : A → List ℕ → Got B) (b : B) (r : List ℕ) → (g andThen f) ≡ gets b r → Came g f b r
+unfolding _andThen_
+came (fails c) f b r e = absurd (refused-got c b r e)
+came (gets a s) f b r e = record { value = a; rest = s; is = refl; after = e }
+
+-- what came of a reading that a test lets pass
+formed : {A : Type 0} (t : Bool) (a b : A) (r s : List ℕ) → malformedIf t (gets a r) ≡ gets b s → (t ≡ false) × (a ≡ b)
+formed true a b r s e = absurd (refused-got BadSheet b s e)
+formed false a b r s e = (refl, cc)
+
+segment-refers : (n : ℕ) (bs : List ℕ) (s : SegmentRead) (r : List ℕ) → segment n bs ≡ gets s r → s .follower ≤ n
+unfolding segment
+segment-refers n bs s r e =
+    let a = came _ _ s r e in
+    let b = came _ _ s r (a .after) in
+    let c = came _ _ s r (b .after) in
+    let q = formed (ltb n (c .value)) _ s _ r (c .after) in
+    let l : c .value ≤ n = ltb-false n (c .value) (q .0) in
+    subst (λ (z : SegmentRead). z .follower ≤ n) (q .1) l
+
+record Right (n k : ℕ) (ss : List SegmentRead) : Type 0 where
+  refers : Refers n ss
+  many : length ss ≡ k
+
+repeated-refers : (n k : ℕ) (bs : List ℕ) (ss : List SegmentRead) (r : List ℕ) → repeated (segment n) k bs ≡ gets ss r → Right n k ss
+unfolding repeated
+repeated-refers n zero bs ss r e =
+    let q : [] ≡ ss = cc in
+    subst (Right n zero) q (record { refers = nil; many = refl })
+repeated-refers n (suc k) bs ss r e =
+    let a = came _ _ ss r e in
+    let b = came _ _ ss r (a .after) in
+    let i = repeated-refers n k (a .rest) (b .value) (b .rest) (b .is) in
+    let p = b .after in
+    let q : a .value ∷ b .value ≡ ss = cc in
+    subst (Right n (suc k)) q (record { refers = cons (segment-refers n bs (a .value) (a .rest) (a .is)) (i .refers); many = ap suc (i .many) })
+
+abbrev Own : Sheet → Type 0
+Own s = Refers (length (s .segments)) (s .segments)
+
+from-refers : (bs : List ℕ) (s : Sheet) (r : List ℕ) → sheetFrom bs ≡ gets s r → Own s
+unfolding sheetFrom
+from-refers bs s r e =
+    let a = came _ _ s r e in
+    let b = came _ _ s r (a .after) in
+    let c = came _ _ s r (b .after) in
+    let d = came _ _ s r (c .after) in
+    let i = repeated-refers (a .value) (a .value) (a .rest) (b .value) (b .rest) (b .is) in
+    let q = formed (ltb 0 (length (d .rest))) _ s _ r (d .after) in
+    let m = i .many in
+    let o : Refers (length (b .value)) (b .value) = rw m (i .refers) in
+    subst (λ (z : Sheet). Own z) (q .1) o
+
+pub sheet-refers : (bs : List ℕ) → Refers (length (sheetOf bs .segments)) (sheetOf bs .segments)
+unfolding sheetOf
+sheet-refers bs = by (sheetFrom bs) (from-refers bs)
+  where
+    by : (g : Got Sheet) → ((s : Sheet) (r : List ℕ) → g ≡ gets s r → Own s) → Own (sheetIn g)
+    by (fails c) f = nil
+    by (gets s r) f = f s r refl

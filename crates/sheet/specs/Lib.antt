@@ -1,0 +1,3 @@
+-- The root of sheet's definitions.
+pub mod Sheet
+pub mod Begins

@@ -1,0 +1,2 @@
+-- Laws about text's definitions.
+pub mod NameLaws

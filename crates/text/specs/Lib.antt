@@ -1,0 +1,4 @@
+-- The root of text's definitions.
+pub mod Names
+pub mod Utf8
+pub mod Trim

@@ -1,0 +1,43 @@
+-- A name trimmed as Rust's `str::trim`: without the white space of Unicode (the property White_Space) at either end.
+use mathlib.Core.Bool.{Bool, _&&_, _||_}
+use mathlib.Core.List.{List, [], _∷_}
+use Prim.Native.Nat.{ℕ, zero, suc}
+use lib.Dec.{eqb, leb}
+use lib.ListN.{length, getD, drop}
+use Rattle.base.specs.Choice.{pick}
+use Rattle.text.specs.Names.{same}
+
+abbrev pub within : ℕ → ℕ → ℕ → Bool
+within lo hi b = leb lo b && leb b hi
+
+-- how many bytes the white space character at the front of a text has, 0 where there is none: U+0009 to U+000D and U+0020;
+-- U+0085, U+00A0; U+1680, U+2000 to U+200A, U+2028, U+2029, U+202F, U+205F, U+3000
+unfoldable pub spaceAt : List ℕ → ℕ
+spaceAt bs =
+    let a = getD bs 0 0 in
+    let b = getD bs 1 0 in
+    let c = getD bs 2 0 in
+    pick (within 0x09 0x0D a || eqb a 0x20) 1
+    (pick (eqb a 0xC2 && (eqb b 0x85 || eqb b 0xA0)) 2
+    (pick
+    ((eqb a 0xE1 && eqb b 0x9A && eqb c 0x80)
+    || (eqb a 0xE2 && eqb b 0x80 && (within 0x80 0x8A c || eqb c 0xA8 || eqb c 0xA9 || eqb c 0xAF))
+    || (eqb a 0xE2 && eqb b 0x81 && eqb c 0x9F)
+    || (eqb a 0xE3 && eqb b 0x80 && eqb c 0x80))
+    3 0))
+
+-- without the white space at the front; at most n characters of it
+unfoldable pub trimStartBy : ℕ → List ℕ → List ℕ
+trimStartBy zero bs = bs
+trimStartBy (suc n) bs = elim (spaceAt bs) [ zero ↦ bs | suc k ↦ trimStartBy n (drop (suc k) bs) ]
+
+unfoldable pub trimStart : List ℕ → List ℕ
+trimStart bs = trimStartBy (length bs) bs
+
+-- up to where nothing but white space follows
+unfoldable pub trimEnd : List ℕ → List ℕ
+trimEnd [] = []
+trimEnd (b ∷ bs) = pick (same (trimStart (b ∷ bs)) []) [] (b ∷ trimEnd bs)
+
+unfoldable pub trim : List ℕ → List ℕ
+trim bs = trimEnd (trimStart bs)

@@ -1,0 +1,2 @@
+-- The root of ulaw's definitions.
+pub mod Ulaw

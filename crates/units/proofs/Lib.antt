@@ -1,0 +1,2 @@
+-- Laws about units' definitions.
+pub mod UnitLaws

@@ -1,0 +1,3 @@
+-- The root of units' definitions.
+pub mod Selecting
+pub mod Units

@@ -1,0 +1,78 @@
+-- Document 01, 'Selecting and marking': the entry of each adjacent pair of segments.
+use mathlib.Core.Bool.{Bool, true, false, _&&_, not}
+use mathlib.Core.List.{List, [], _∷_, _++_, map}
+use mathlib.Core.Option.{Option, none, some}
+use Prim.Native.Nat.{ℕ, zero, suc}
+use Rattle.base.specs.Choice.{pick}
+use Rattle.base.specs.Text.{ascii}
+use Rattle.text.specs.Names.{same}
+use Rattle.voice.specs.Voice.{Entry, Placed, Voice, lookup, isSome, sorted}
+use Rattle.phoneset.specs.Phones.{vc, isVowel, isMinus}
+use Rattle.sheet.specs.Sheet.{SegmentRead}
+
+-- ---- fold on: 'ah' becomes 'aa'
+
+unfoldable pub foldName : List ℕ → List ℕ
+foldName n = pick (same n (ascii "ah")) (ascii "aa") n
+
+abbrev pub foldSegment : SegmentRead → SegmentRead
+foldSegment s = record { name = foldName (s .name); end = s .end; follower = s .follower }
+
+unfoldable pub folded : Bool → List SegmentRead → List SegmentRead
+folded false ss = ss
+folded true ss = map foldSegment ss
+
+-- ---- the names that a pair tries
+
+-- the name of the segment with a number from 1; no name for 0
+unfoldable pub nameOf : List SegmentRead → ℕ → List ℕ
+nameOf ss zero = []
+nameOf [] (suc n) = []
+nameOf (s ∷ ss) (suc zero) = s .name
+nameOf (s ∷ ss) (suc (suc n)) = nameOf ss (suc n)
+
+-- 'the left phone is no vowel and its follower's `vc` is `-`'; ss has all segments
+unfoldable pub inCluster : List SegmentRead → SegmentRead → Bool
+inCluster ss left = not (isVowel (left .name)) && isMinus (vc (nameOf ss (left .follower)))
+
+-- `left_-_right` and `left-right`
+abbrev pub clusterName : List ℕ → List ℕ → List ℕ
+clusterName left right = left ++ (ascii "_-_" ++ right)
+
+abbrev pub plainName : List ℕ → List ℕ → List ℕ
+plainName left right = left ++ (ascii "-" ++ right)
+
+-- 'The first name a pair tries, after folding, is its first-tried name'
+unfoldable pub firstTried : List SegmentRead → SegmentRead → SegmentRead → List ℕ
+firstTried ss left right = pick (inCluster ss left) (clusterName (left .name) (right .name)) (plainName (left .name) (right .name))
+
+-- ---- the entry of a pair
+
+abbrev pub orElse : Option Entry → Entry → Entry
+orElse none d = d
+orElse (some e) d = e
+
+-- 'the sorted first entry'; an open voice has one
+abbrev pub firstEntry : List Placed → Entry
+firstEntry [] = record { name = []; start = 0; first = 0; second = 0 }
+firstEntry (p ∷ ps) = p .entry
+
+-- 'try `left_-_right`; then `left-right`; then the sorted first entry'
+unfoldable pub entryOf : Voice → List SegmentRead → SegmentRead → SegmentRead → Entry
+entryOf v ss left right =
+    orElse (lookup (firstTried ss left right) (v .entries))
+    (orElse (lookup (plainName (left .name) (right .name)) (v .entries)) (firstEntry (sorted v)))
+
+-- ---- each pair finds its first-tried name
+
+unfoldable pub foundFrom : Voice → List SegmentRead → SegmentRead → List SegmentRead → Bool
+foundFrom v ss left [] = true
+foundFrom v ss left (right ∷ rs) = isSome (lookup (firstTried ss left right) (v .entries)) && foundFrom v ss right rs
+
+unfoldable pub foundAll : Voice → List SegmentRead → List SegmentRead → Bool
+foundAll v ss [] = true
+foundAll v ss (s ∷ rs) = foundFrom v ss s rs
+
+-- 'each pair of the first sheet finds its first-tried name in the first voice'
+unfoldable pub firstTriedFound : Voice → Bool → List SegmentRead → Bool
+firstTriedFound v fold ss = foundAll v (folded fold ss) (folded fold ss)

@@ -1,0 +1,50 @@
+-- Document 01, 'Selecting and marking': halves and target ends.
+use mathlib.Core.List.{List, [], _∷_, _++_}
+use mathlib.Core.Option.{Option, none, some}
+use mathlib.Core.Bool.{false}
+use Prim.Native.Nat.{ℕ, _+_}
+use lib.Dec.{leb}
+use lib.IntN.{pos}
+use lib.Ieee.{Float, fin, binary32, add, mul, div, ofInt, toUnsigned}
+use Rattle.base.specs.Choice.{pick}
+use Rattle.refusal.specs.declared.Refusal.{Refusal}
+use Rattle.refusal.specs.declared.Refusal.the-variants.{PastLimit}
+use Rattle.voice.specs.Voice.{Entry, Voice}
+use Rattle.sheet.specs.Sheet.{SegmentRead, asF32}
+use Rattle.units.specs.declared.Unit.{Unit}
+use Rattle.units.specs.Selecting.{entryOf}
+
+-- a time in seconds × rate, in f32, 'truncated, 0 below zero'
+unfoldable pub samplesAt : ℕ → Float → ℕ
+samplesAt rate time = toUnsigned 64 (mul binary32 time (ofInt binary32 (pos rate)))
+
+-- '(left + right) / 2', in f32
+unfoldable pub midway : Float → Float → Float
+midway left right = div binary32 (add binary32 left right) (fin false 1 (pos 1))
+
+-- 'Halves are start to middle, middle to end. Target ends: left end × rate, and (left + right) / 2 × rate'
+unfoldable pub unitsOfPair : ℕ → Entry → Float → Float → List Unit
+unitsOfPair rate e left right =
+    let middle = e .start + e .first in
+    record { «first_period» = e .start; «last_period» = middle; «target_end» = samplesAt rate left }
+    ∷ record { «first_period» = middle; «last_period» = middle + e .second; «target_end» = samplesAt rate (midway left right) }
+    ∷ []
+
+-- the pair of `left` and the first of the segments after it, and so on; ss has all segments, to which followers refer
+unfoldable pub unitsFrom : Voice → List SegmentRead → SegmentRead → List SegmentRead → List Unit
+unitsFrom v ss left [] = []
+unitsFrom v ss left (right ∷ rs) =
+    unitsOfPair (v .header .rate) (entryOf v ss left right) (asF32 (left .end)) (asF32 (right .end)) ++ unitsFrom v ss right rs
+
+unfoldable pub unitsAll : Voice → List SegmentRead → List SegmentRead → List Unit
+unitsAll v ss [] = []
+unitsAll v ss (s ∷ rs) = unitsFrom v ss s rs
+
+-- the units of segments that are folded already
+abbrev pub unitsOf : Voice → List SegmentRead → List Unit
+unitsOf v ss = unitsAll v ss ss
+
+-- 11 at the first target end above 16,777,215, in unit order
+unfoldable pub endRefusal : List Unit → Option Refusal
+endRefusal [] = none
+endRefusal (u ∷ us) = pick (leb (u .«target_end») 16777215) (endRefusal us) (some PastLimit)

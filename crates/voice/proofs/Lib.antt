@@ -1,0 +1,4 @@
+-- Laws about voice's definitions.
+pub mod EntryLaws
+pub mod PeriodLaws
+pub mod OpeningLaws
