@@ -1,0 +1,248 @@
+//! A call as document 01 words it, as far as its refusals 10 to 12 reach:
+//! units, target ends and marks. The samples themselves come from the Rust.
+
+use crate::phoneset;
+use crate::refusal::Refusal;
+use crate::sheet::Sheet;
+use crate::voicefile::{Entry, Voice};
+use std::ops::ControlFlow;
+
+/// The largest mark or target end.
+pub const MAX_PLACE: usize = 16_777_215;
+pub const MAX_MARKS: usize = 65_536;
+
+#[derive(Clone, Copy, Debug, PartialEq, Eq)]
+pub enum Join {
+    None,
+    Simple,
+    Modified,
+}
+
+#[derive(Clone, Copy, Debug, PartialEq, Eq)]
+pub enum Filter {
+    Fixed,
+    Float,
+}
+
+#[derive(Clone, Copy, Debug, PartialEq, Eq)]
+pub struct Settings {
+    pub join: Join,
+    pub filter: Filter,
+    pub fold: bool,
+}
+
+pub const JOINS: [Join; 3] = [Join::None, Join::Simple, Join::Modified];
+pub const FILTERS: [Filter; 2] = [Filter::Fixed, Filter::Float];
+
+impl Settings {
+    /// Every setting that can be expressed.
+    pub fn all() -> Vec<Settings> {
+        let mut all = Vec::new();
+        for join in JOINS {
+            for filter in FILTERS {
+                for fold in [false, true] {
+                    all.push(Settings { join, filter, fold });
+                }
+            }
+        }
+        all
+    }
+
+    pub fn new(join: Join) -> Settings {
+        Settings {
+            join,
+            filter: Filter::Fixed,
+            fold: false,
+        }
+    }
+}
+
+/// Half of a chosen entry.
+#[derive(Clone, Copy, Debug, PartialEq, Eq)]
+pub struct Unit {
+    pub first: usize,
+    pub last: usize,
+    pub target_end: usize,
+}
+
+/// A segment's phone, folded where fold is on.
+fn phone(sheet: &Sheet, segment: usize, fold: bool) -> &str {
+    match sheet.segments[segment].name.as_str() {
+        "ah" if fold => "aa",
+        name => name,
+    }
+}
+
+/// The names that the pair starting at segment `left` tries, in order.
+pub fn tried(sheet: &Sheet, left: usize, fold: bool) -> Vec<String> {
+    let l = phone(sheet, left, fold);
+    let r = phone(sheet, left + 1, fold);
+    let follower = sheet.segments[left].follower;
+    let cluster = follower != 0
+        && !phoneset::is_vowel(l)
+        && phoneset::feature(phone(sheet, follower - 1, fold), "vc") == "-";
+    let mut names = Vec::new();
+    if cluster {
+        names.push(format!("{l}_-_{r}"));
+    }
+    names.push(format!("{l}-{r}"));
+    names
+}
+
+/// Whether every pair finds its first-tried name.
+pub fn finds_all_first_tried(voice: &Voice, sheet: &Sheet, fold: bool) -> bool {
+    let pairs = sheet.segments.len().saturating_sub(1);
+    (0..pairs).all(|left| voice.find(&tried(sheet, left, fold)[0]).is_some())
+}
+
+fn chosen<'v, 'a>(voice: &'v Voice<'a>, sheet: &Sheet, left: usize, fold: bool) -> &'v Entry<'a> {
+    tried(sheet, left, fold)
+        .iter()
+        .find_map(|name| voice.find(name))
+        .unwrap_or(&voice.index[0])
+}
+
+/// Two units for each adjacent pair of segments.
+pub fn units(voice: &Voice, sheet: &Sheet, fold: bool) -> Vec<Unit> {
+    let rate = voice.header.rate as f32;
+    let mut units = Vec::new();
+    for left in 0..sheet.segments.len().saturating_sub(1) {
+        let entry = chosen(voice, sheet, left, fold);
+        let left_end = sheet.segments[left].end.as_f32();
+        let right_end = sheet.segments[left + 1].end.as_f32();
+        units.push(Unit {
+            first: entry.start,
+            last: entry.middle(),
+            target_end: (left_end * rate) as usize,
+        });
+        units.push(Unit {
+            first: entry.middle(),
+            last: entry.end(),
+            target_end: ((left_end + right_end) / 2.0 * rate) as usize,
+        });
+    }
+    units
+}
+
+/// The marks that a call makes, or its refusal with 10 to 12.
+pub fn marks(voice: &Voice, sheet: &Sheet, settings: Settings) -> Result<Vec<usize>, Refusal> {
+    if settings.join == Join::None || sheet.segments.len() < 2 {
+        return Ok(Vec::new());
+    }
+    let units = units(voice, sheet, settings.fold);
+    if settings.join == Join::Simple {
+        return simple_marks(voice, &units);
+    }
+    if units.iter().any(|unit| unit.target_end > MAX_PLACE) {
+        return Err(Refusal::TooFar);
+    }
+    modified_marks(voice.header.rate, &sheet.contour())
+}
+
+/// Adds a mark: first the count is looked at, then the mark.
+fn add_mark(marks: &mut Vec<usize>, mark: usize) -> Result<(), Refusal> {
+    if marks.len() == MAX_MARKS {
+        return Err(Refusal::TooManyMarks);
+    }
+    if mark > MAX_PLACE {
+        return Err(Refusal::TooFar);
+    }
+    marks.push(mark);
+    Ok(())
+}
+
+fn simple_marks(voice: &Voice, units: &[Unit]) -> Result<Vec<usize>, Refusal> {
+    let mut marks = Vec::new();
+    let mut mark = 0;
+    for unit in units {
+        for period in unit.first..unit.last {
+            mark += voice.samples(period);
+            add_mark(&mut marks, mark)?;
+        }
+    }
+    Ok(marks)
+}
+
+fn modified_marks(rate: u32, contour: &[(f32, f32)]) -> Result<Vec<usize>, Refusal> {
+    let mut marks = Vec::new();
+    let refusal = walk(contour, |step| {
+        let answer = match step {
+            Step::Slope(slope) if !slope.is_finite() => Err(Refusal::Slope),
+            Step::Slope(_) => Ok(()),
+            Step::Mark { after, .. } => add_mark(&mut marks, (f64::from(rate) * after) as usize),
+        };
+        match answer {
+            Ok(()) => ControlFlow::Continue(()),
+            Err(refusal) => ControlFlow::Break(refusal),
+        }
+    });
+    refusal.map_or(Ok(marks), Err)
+}
+
+/// One thing that happens on the way along a contour.
+enum Step {
+    /// A slope was worked out.
+    Slope(f32),
+    /// A mark was made; time went from `before` to `after`.
+    Mark { before: f64, after: f64 },
+}
+
+/// Goes along a contour, handing out each step, until it ends or `step` says
+/// to stop.
+fn walk<T>(contour: &[(f32, f32)], mut step: impl FnMut(Step) -> ControlFlow<T>) -> Option<T> {
+    let mut time = 0.0f64;
+    let mut last = (0.0f64, 120.0f64);
+    for &(pos, f0) in contour {
+        let here = (f64::from(pos), f64::from(f0));
+        if time != here.0 && here.0 > last.0 {
+            let slope = ((here.1 - last.1) / (here.0 - last.0)) as f32;
+            if let ControlFlow::Break(found) = step(Step::Slope(slope)) {
+                return Some(found);
+            }
+            while time < here.0 {
+                let instantaneous = last.1 + (time - last.0) * f64::from(slope);
+                if instantaneous <= 0.0 {
+                    break;
+                }
+                let before = time;
+                time += 1.0 / instantaneous;
+                if let ControlFlow::Break(found) = step(Step::Mark {
+                    before,
+                    after: time,
+                }) {
+                    return Some(found);
+                }
+            }
+        }
+        last = here;
+    }
+    None
+}
+
+/// How the Rust's own walk along a contour goes, which has no limits.
+#[derive(Clone, Copy, Debug, PartialEq, Eq)]
+pub enum Ending {
+    /// It ends with at most 65,536 marks.
+    Ends,
+    /// Within 65,536 marks time cannot advance: it never ends.
+    CannotAdvance,
+    /// It makes more than 65,536 marks; whether it ends is not looked at.
+    ManyMarks,
+}
+
+/// Finds that out without calling the Rust.
+pub fn ending(contour: &[(f32, f32)]) -> Ending {
+    let mut count = 0;
+    let found = walk(contour, |step| match step {
+        Step::Slope(_) => ControlFlow::Continue(()),
+        Step::Mark { before, after } if before == after => {
+            ControlFlow::Break(Ending::CannotAdvance)
+        }
+        Step::Mark { .. } if count == MAX_MARKS => ControlFlow::Break(Ending::ManyMarks),
+        Step::Mark { .. } => {
+            count += 1;
+            ControlFlow::Continue(())
+        }
+    });
+    found.unwrap_or(Ending::Ends)
+}

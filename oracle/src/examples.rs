@@ -1,0 +1,131 @@
+//! The examples that document 01 prints, worked out by the Rust.
+
+use crate::call::{Join, Settings};
+use crate::diphone::access::{self, PlainUnit};
+use crate::diphone::DiphoneVoice;
+use crate::dsp::access::Decoder;
+use crate::dsp::{i16_to_ulaw, ulaw_to_i16};
+use crate::gen::damaged_calls::two_periods;
+use crate::gen::voices::{file, plain, VoiceSpec};
+use crate::gen::PHONES;
+use crate::phoneset;
+use crate::reference::{self, Parsed};
+use crate::report::Report;
+use crate::sheet::{self, Sheet, Target, Value};
+
+pub fn run(report: &mut Report) {
+    companding(report);
+    adpcm(report);
+    periods(report);
+    marks(report);
+    phones(report);
+    printed(report);
+}
+
+fn companding(report: &mut Report) {
+    for (byte, sample) in [(255, 0), (127, 0), (0, -32_124), (128, 32_124)] {
+        report.equal(&sample, &ulaw_to_i16(byte), || format!("mu-law {byte}"));
+    }
+    let encoded = [
+        (3, 255),
+        (4, 254),
+        (0, 255),
+        (-1, 127),
+        (32_767, 128),
+        (-32_768, 0),
+    ];
+    for (sample, byte) in encoded {
+        report.equal(&byte, &i16_to_ulaw(sample), || format!("encode {sample}"));
+    }
+}
+
+fn adpcm(report: &mut Report) {
+    for (code, sample, byte) in [(7, 88, 244), (8, -88, 116), (15, 0, 255)] {
+        let found = Decoder::fresh().decode(code);
+        let answer = (found, i16_to_ulaw(found));
+        report.equal(&(sample, byte), &answer, || {
+            format!("fresh G.721, code {code}")
+        });
+    }
+}
+
+/// The nearest period, and the two ways of centring.
+fn periods(report: &mut Report) {
+    let voice = opened(&voice_of(&[0, 2, 4], &[1, 2, 3, 4]));
+    let unit = PlainUnit {
+        first_period: 0,
+        last_period: 2,
+        target_end: 0,
+    };
+    let nearest = access::nearest_period(&voice, &unit, 1.0);
+    report.equal(&1, &nearest, || "periods 2 and 2, position 1".into());
+
+    let voice = opened(&voice_of(&[0, 3, 9], &[1, 2, 3, 4, 5, 6, 7, 8, 9]));
+    let mut six = [255; 6];
+    access::copy_residual(&voice, 0, &mut six);
+    report.equal(&[255, 1, 2, 3, 255, 255], &six, || "3 bytes into 6".into());
+    let mut three = [255; 3];
+    access::copy_residual(&voice, 1, &mut three);
+    report.equal(&[5, 6, 7], &three, || "6 bytes into 3".into());
+}
+
+fn marks(report: &mut Report) {
+    let target = |pos| Target {
+        pos: Value::float(pos),
+        f0: Value::Whole(64),
+    };
+    let sheet = Sheet {
+        segments: Vec::new(),
+        targets: vec![target(0.0), target(0.0625)],
+    };
+    let voice = opened(&two_periods(8000));
+    let marks = access::pitch_marks(&voice, &reference::utterance(&sheet));
+    let expected = vec![125, 250, 375, 500];
+    report.equal(&expected, &marks, || "marks of two targets".into());
+}
+
+fn phones(report: &mut Report) {
+    for (i, name) in PHONES.iter().enumerate() {
+        let found = phoneset::phone_id(name);
+        report.equal(&Some(i), &found, || format!("phone {name}"));
+    }
+    let unknown = phoneset::feature("xx", "vc");
+    report.equal(&"0", &unknown, || "vc of an unknown phone".into());
+}
+
+/// The program's printed example, as text.
+fn printed(report: &mut Report) {
+    let bytes = [2, 3, 112, 97, 117, 2, 0, 2, 97, 97, 2, 0, 0];
+    let spec = two_periods(8000);
+    let lines = match sheet::read(&bytes) {
+        Ok(sheet) => speak_lines(&opened(&spec), &sheet),
+        Err(refusal) => format!("refused {}", refusal.number()),
+    };
+    let expected = "8000 2 5\n1 2 8 132\n2 3 0 -8 -132\n".to_string();
+    report.equal(&expected, &lines, || "printed example".into());
+}
+
+/// Rate, periods and samples, then each period with its number and size.
+fn speak_lines(voice: &DiphoneVoice, sheet: &Sheet) -> String {
+    let periods = reference::speak(voice, sheet, Settings::new(Join::Simple));
+    let samples: usize = periods.iter().map(Vec::len).sum();
+    let mut lines = format!("{} {} {samples}\n", voice.sample_rate(), periods.len());
+    for (i, period) in periods.iter().enumerate() {
+        let values: Vec<String> = period.iter().map(i16::to_string).collect();
+        lines += &format!("{} {} {}\n", i + 1, period.len(), values.join(" "));
+    }
+    lines
+}
+
+fn voice_of(offsets: &[u32], residual: &[u8]) -> VoiceSpec {
+    let mut spec = plain(offsets.len() as u32 - 1, offsets.to_vec());
+    spec.residual = residual.to_vec();
+    spec
+}
+
+fn opened(spec: &VoiceSpec) -> Box<DiphoneVoice> {
+    match reference::parse(&file(&spec.sections())) {
+        Parsed::Voice(voice) => voice,
+        _ => panic!("an example voice does not parse"),
+    }
+}

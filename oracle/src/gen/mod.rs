@@ -1,0 +1,35 @@
+//! Voices, sheets and calls made from a seed: good ones, and damaged ones that
+//! carry the number document 01 gives them.
+
+pub mod damaged_calls;
+pub mod damaged_sheets;
+pub mod damaged_voices;
+pub mod sheets;
+pub mod text;
+pub mod voices;
+
+use crate::refusal::Refusal;
+
+// Document 01's limits, written out here once more: a wrong limit in a reader
+// then shows as a label that it does not give.
+pub const MAX_RESIDUAL: usize = 16_777_215;
+pub const MAX_COUNT: usize = 4096;
+pub const MAX_NAME: usize = 32;
+pub const MAX_PLACE: usize = 16_777_215;
+pub const MAX_MARKS: usize = 65_536;
+
+/// A file with the answer that it must get.
+pub struct Labelled {
+    pub bytes: Vec<u8>,
+    /// Nothing where it lies just inside the limits and is accepted.
+    pub label: Option<Refusal>,
+    pub reason: String,
+}
+
+/// The fifty phones of phoneset.rs.
+#[rustfmt::skip]
+pub const PHONES: [&str; 50] = [
+    "aa", "ae", "ah", "ao", "aw", "ax", "axr", "ay", "b", "ch", "d", "dh", "dx", "eh", "el", "em",
+    "en", "er", "ey", "f", "g", "hh", "hv", "ih", "iy", "jh", "k", "l", "m", "n", "nx", "ng", "ow",
+    "oy", "p", "r", "s", "sh", "t", "th", "uh", "uw", "v", "w", "y", "z", "zh", "pau", "h#", "brth",
+];

@@ -1,0 +1,372 @@
+//! Good voices and sheets from a seed: opened by both readers, spoken by the
+//! Rust under every setting, and extended.
+
+use crate::call::{self, Ending, Filter, Join, Settings, FILTERS, JOINS};
+use crate::diphone::access;
+use crate::diphone::DiphoneVoice;
+use crate::dsp;
+use crate::gen::sheets;
+use crate::gen::voices::{self, Extent, Vocabulary, VoiceSpec};
+use crate::reference::{self, Fitness, Parsed};
+use crate::refusal::{shown, Refusal, REFUSALS};
+use crate::report::Report;
+use crate::rng::Rng;
+use crate::sheet::{self, Sheet};
+use crate::voicefile::{self, Voice};
+
+const SHEETS_PER_VOICE: usize = 3;
+
+/// What the cases covered.
+#[derive(Default)]
+pub struct Counts {
+    pub voices: u64,
+    pub g721: u64,
+    pub with_sizes: u64,
+    pub sheets: u64,
+    /// Calls spoken with their periods and samples, by join and filter.
+    pub spoken: [[[u64; 3]; 2]; 3],
+    pub refused: [u64; REFUSALS + 1],
+    /// Pairs by the name found: the first tried, the second, none.
+    pub found: [u64; 3],
+    pub laws: u64,
+    /// Calls not handed to the Rust: time cannot advance, too many marks, long.
+    pub guarded: [u64; 3],
+}
+
+/// One case: a voice, its sheets, an extension and longer sheets.
+pub fn run(seed: u64, case: u64, report: &mut Report, counts: &mut Counts) {
+    let rng = &mut Rng::for_case(seed, case);
+    let words = voices::vocabulary(rng);
+    let covering = rng.once_in(2);
+    let spec = voices::voice(rng, &words, Extent::Any, covering);
+    let wider = voices::extension(rng, &spec);
+    let files = [&spec, &wider].map(|spec| voices::file(&voices::with_extras(rng, spec)));
+    let [Some(old), Some(new)] = [0, 1].map(|i| Opened::new(&files[i], case, report)) else {
+        return;
+    };
+    counts.voices += 2;
+    counts.g721 += u64::from(old.read.is_g721()) * 2;
+    counts.with_sizes += u64::from(spec.sizes.is_some()) * 2;
+    report.check(new.read.extends(&old.read), || {
+        format!("case {case}: the extension does not extend")
+    });
+    let mut one = Case {
+        case,
+        report,
+        counts,
+    };
+    one.sheets(rng, &words, &spec, &old, &new);
+}
+
+/// A voice opened by both readers.
+struct Opened<'a> {
+    read: Voice<'a>,
+    rust: Box<DiphoneVoice>,
+}
+
+impl<'a> Opened<'a> {
+    fn new(bytes: &'a [u8], case: u64, report: &mut Report) -> Option<Opened<'a>> {
+        let read = voicefile::open(bytes);
+        report.check(read.is_ok(), || {
+            let answer = shown(read.as_ref().err().copied());
+            format!("case {case}: good voice is refused: {answer}")
+        });
+        let rust = match reference::parse(bytes) {
+            Parsed::Voice(voice) => Some(voice),
+            _ => None,
+        };
+        report.check(rust.is_some(), || {
+            format!("case {case}: the Rust does not open a good voice")
+        });
+        let opened = Opened {
+            read: read.ok()?,
+            rust: rust?,
+        };
+        opened.compare(case, report);
+        Some(opened)
+    }
+
+    /// Header, index and every period, as both readers see them.
+    fn compare(&self, case: u64, report: &mut Report) {
+        let read = &self.read.header;
+        let rust = access::header(&self.rust);
+        let ours = [
+            read.order,
+            read.rate,
+            read.coeff_min,
+            read.coeff_range,
+            read.codec,
+            read.stretch,
+            read.f0_mean,
+            read.f0_deviation,
+            u32::from(read.fold != 0),
+        ];
+        let theirs = [
+            rust.order as u32,
+            rust.rate,
+            rust.coeff_min.to_bits(),
+            rust.coeff_range.to_bits(),
+            u32::from(rust.g721),
+            rust.stretch.to_bits(),
+            rust.f0_mean.to_bits(),
+            rust.f0_deviation.to_bits(),
+            u32::from(rust.fold),
+        ];
+        report.equal(&theirs, &ours, || format!("case {case}: header"));
+        self.compare_index(case, report);
+        for period in 0..self.read.frames() {
+            let theirs = (
+                access::period_samples(&self.rust, period),
+                access::period_residual(&self.rust, period),
+                access::period_coefficients(&self.rust, period),
+            );
+            let ours = (
+                self.read.samples(period),
+                self.read.stored(period),
+                self.read.row(period),
+            );
+            report.equal(&theirs, &ours, || format!("case {case}: period {period}"));
+        }
+    }
+
+    fn compare_index(&self, case: u64, report: &mut Report) {
+        let ours: Vec<access::Entry> = self.read.index.iter().map(as_rust).collect();
+        let theirs = access::index(&self.rust);
+        report.equal(&theirs, &ours, || format!("case {case}: sorted index"));
+        for entry in &ours {
+            let found = access::find(&self.rust, &entry.name);
+            report.equal(&Some(entry.clone()), &found, || {
+                format!("case {case}: find")
+            });
+        }
+    }
+}
+
+fn as_rust(entry: &voicefile::Entry) -> access::Entry {
+    access::Entry {
+        name: entry.name.to_string(),
+        start: entry.start,
+        first_half: entry.first_half,
+        second_half: entry.second_half,
+    }
+}
+
+struct Case<'r> {
+    case: u64,
+    report: &'r mut Report,
+    counts: &'r mut Counts,
+}
+
+impl Case<'_> {
+    fn sheets(
+        &mut self,
+        rng: &mut Rng,
+        words: &Vocabulary,
+        spec: &VoiceSpec,
+        old: &Opened,
+        new: &Opened,
+    ) {
+        let rate = spec.header.rate;
+        for _ in 0..SHEETS_PER_VOICE {
+            let first = sheets::sheet(rng, words, rate);
+            let second = sheets::longer(rng, &first, words, rate);
+            self.read_back(&first);
+            self.read_back(&second);
+            let begins = second.begins_with(&first);
+            self.report.check(begins, || "longer sheet".to_string());
+            self.count_names(&old.read, &first);
+            for settings in Settings::all() {
+                self.law(old, new, &first, &second, settings);
+            }
+        }
+    }
+
+    fn read_back(&mut self, sheet: &Sheet) {
+        self.counts.sheets += 1;
+        let found = sheet::read(&sheet::write(sheet));
+        let case = self.case;
+        self.report
+            .equal(&Ok(sheet.clone()), &found, || format!("case {case}: sheet"));
+    }
+
+    fn count_names(&mut self, voice: &Voice, sheet: &Sheet) {
+        for left in 0..sheet.segments.len().saturating_sub(1) {
+            let tried = call::tried(sheet, left, false);
+            let found = tried.iter().position(|name| voice.find(name).is_some());
+            self.counts.found[found.unwrap_or(2)] += 1;
+        }
+    }
+
+    /// Speaks three calls under one setting and compares them by the law on
+    /// longer sheets and extended voices.
+    fn law(&mut self, old: &Opened, new: &Opened, s: &Sheet, t: &Sheet, settings: Settings) {
+        let first = self.speak(old, s, settings);
+        let same = self.speak(new, s, settings);
+        let longer = self.speak(new, t, settings);
+        let (Some(first), Some(same)) = (first, same) else {
+            return;
+        };
+        if !call::finds_all_first_tried(&old.read, s, settings.fold) {
+            return;
+        }
+        self.counts.laws += 1;
+        let case = self.case;
+        self.report.check(first == same, || {
+            format!("case {case}: {settings:?}: an extended voice speaks otherwise")
+        });
+        if let Some(longer) = longer {
+            let (first, longer) = (first.concat(), longer.concat());
+            self.report.check(longer.starts_with(&first), || {
+                format!("case {case}: {settings:?}: a longer sheet begins otherwise")
+            });
+        }
+    }
+
+    /// The periods of a call, or nothing if it is refused or not run.
+    fn speak(
+        &mut self,
+        voice: &Opened,
+        sheet: &Sheet,
+        settings: Settings,
+    ) -> Option<Vec<Vec<i16>>> {
+        let marks = match call::marks(&voice.read, sheet, settings) {
+            Ok(marks) => marks,
+            Err(refusal) => {
+                self.counts.refused[refusal.number()] += 1;
+                self.check_refused(voice, sheet, settings, refusal);
+                return None;
+            }
+        };
+        match reference::fitness(&voice.read, sheet, settings, &marks) {
+            Fitness::Fit => {}
+            Fitness::MakesMarksWithoutUnits(Ending::CannotAdvance) => {
+                self.counts.guarded[0] += 1;
+                return Some(Vec::new());
+            }
+            Fitness::MakesMarksWithoutUnits(_) => {
+                self.counts.guarded[1] += 1;
+                return Some(Vec::new());
+            }
+            Fitness::TakesLong => {
+                self.counts.guarded[2] += 1;
+                return None;
+            }
+        }
+        self.run_rust(voice, sheet, settings, &marks)
+    }
+
+    /// A call refused for a place too far must have one in the Rust too. Where
+    /// time cannot advance the Rust is not asked.
+    fn check_refused(
+        &mut self,
+        voice: &Opened,
+        sheet: &Sheet,
+        settings: Settings,
+        refusal: Refusal,
+    ) {
+        if settings.join != Join::Modified {
+            return;
+        }
+        let ending = call::ending(&sheet.contour());
+        if ending == Ending::CannotAdvance {
+            self.counts.guarded[0] += 1;
+        }
+        if ending == Ending::Ends && refusal == Refusal::TooFar {
+            let utt = reference::prepared(sheet, settings);
+            let units = access::select_units(&voice.rust, &utt);
+            let marks = access::pitch_marks(&voice.rust, &utt);
+            let ends = units.iter().map(|unit| unit.target_end);
+            let far = ends.chain(marks).any(|place| place > call::MAX_PLACE);
+            let case = self.case;
+            self.report.check(far, || {
+                format!("case {case}: {settings:?}: nothing too far")
+            });
+        }
+    }
+
+    fn run_rust(
+        &mut self,
+        voice: &Opened,
+        sheet: &Sheet,
+        settings: Settings,
+        marks: &[usize],
+    ) -> Option<Vec<Vec<i16>>> {
+        let case = self.case;
+        let periods = reference::quietly(|| reference::speak(&voice.rust, sheet, settings));
+        self.report.check(periods.is_some(), || {
+            format!("case {case}: {settings:?}: the Rust panics on {sheet:?}")
+        });
+        let periods = periods?;
+        // What is filled does not depend on the filter.
+        if settings.filter == Filter::Fixed {
+            let filled = reference::fill(&voice.rust, sheet, settings);
+            self.compare_filled(voice, sheet, settings, marks, &filled);
+            self.compare_periods(voice, settings, &periods, &filled);
+        }
+        let join = JOINS.iter().position(|join| *join == settings.join)?;
+        let filter = FILTERS
+            .iter()
+            .position(|filter| *filter == settings.filter)?;
+        let spoken = &mut self.counts.spoken[join][filter];
+        spoken[0] += 1;
+        spoken[1] += periods.len() as u64;
+        spoken[2] += periods.iter().map(Vec::len).sum::<usize>() as u64;
+        Some(periods)
+    }
+
+    /// Units and marks, ours and the Rust's.
+    fn compare_filled(
+        &mut self,
+        voice: &Opened,
+        sheet: &Sheet,
+        settings: Settings,
+        marks: &[usize],
+        filled: &reference::Filled,
+    ) {
+        let case = self.case;
+        let marks = marks.to_vec();
+        self.report.equal(&filled.marks, &marks, || {
+            format!("case {case}: {settings:?}: marks")
+        });
+        if settings.join == Join::Modified && sheet.segments.len() > 1 {
+            let ours: Vec<access::PlainUnit> = call::units(&voice.read, sheet, settings.fold)
+                .iter()
+                .map(|unit| access::PlainUnit {
+                    first_period: unit.first,
+                    last_period: unit.last,
+                    target_end: unit.target_end,
+                })
+                .collect();
+            self.report.equal(&filled.units, &ours, || {
+                format!("case {case}: {settings:?}: units")
+            });
+        }
+    }
+
+    /// The fixed filter run over what was filled gives the periods again.
+    fn compare_periods(
+        &mut self,
+        voice: &Opened,
+        settings: Settings,
+        periods: &[Vec<i16>],
+        filled: &reference::Filled,
+    ) {
+        let case = self.case;
+        let lengths: Vec<usize> = periods.iter().map(Vec::len).collect();
+        self.report.equal(&filled.taken.sizes, &lengths, || {
+            format!("case {case}: {settings:?}: sizes")
+        });
+        let header = access::header(&voice.rust);
+        let again = dsp::lpc_resynthesise(
+            &filled.taken.rows,
+            &filled.taken.sizes,
+            &filled.taken.residual,
+            header.coeff_min,
+            header.coeff_range,
+            header.order,
+        );
+        self.report.check(again == periods.concat(), || {
+            format!("case {case}: {settings:?}: samples of the filled buffers")
+        });
+    }
+}

@@ -1,0 +1,59 @@
+//! Compares the ported diphone back end with the Rust program flite-rs.
+//!
+//! The modules of flite-rs stand at the root of this crate, as their own
+//! `crate::` paths ask for. build.rs writes the lines that bring them in.
+
+include!(concat!(env!("OUT_DIR"), "/root.rs"));
+
+mod args;
+mod call;
+mod examples;
+#[cfg(feature = "probe")]
+mod float_inputs;
+#[cfg(feature = "probe")]
+mod floats;
+mod gen;
+mod good;
+#[cfg(feature = "probe")]
+mod probe;
+mod reference;
+mod refusal;
+mod report;
+mod rng;
+mod selfcheck;
+mod sheet;
+mod voicefile;
+
+use std::process::ExitCode;
+
+const USAGE: &str = "usage:
+  oracle self [--seed N] [--count N]
+  oracle floats [--seed N] [--count N] [--all]";
+
+fn main() -> ExitCode {
+    let words: Vec<String> = std::env::args().skip(1).collect();
+    let Some((command, options)) = words.split_first() else {
+        return usage("no command");
+    };
+    let args = match args::read(options) {
+        Ok(args) => args,
+        Err(message) => return usage(&message),
+    };
+    let agreed = match command.as_str() {
+        "self" => selfcheck::run(&args),
+        #[cfg(feature = "probe")]
+        "floats" => floats::run(&args),
+        #[cfg(not(feature = "probe"))]
+        "floats" => return usage("built without the feature probe"),
+        other => return usage(&format!("unknown command {other}")),
+    };
+    match agreed {
+        true => ExitCode::SUCCESS,
+        false => ExitCode::FAILURE,
+    }
+}
+
+fn usage(message: &str) -> ExitCode {
+    eprintln!("oracle: {message}\n{USAGE}");
+    ExitCode::from(2)
+}

@@ -1,0 +1,19 @@
+//! The functions of libprobe.a. They take and return numbers and touch no
+//! memory, so calling them is safe.
+
+unsafe extern "C" {
+    pub safe fn probe_f64_to_f32(x: f64) -> f32;
+    pub safe fn probe_f32_to_i16(x: f32) -> i16;
+    pub safe fn probe_f32_to_i32(x: f32) -> i32;
+    pub safe fn probe_f32_to_usize(x: f32) -> usize;
+    pub safe fn probe_f64_to_usize(x: f64) -> usize;
+    pub safe fn probe_f32_to_usize_clamped(x: f32) -> usize;
+    pub safe fn probe_f64_to_usize_clamped(x: f64) -> usize;
+    pub safe fn probe_f32_from_word(word: u32) -> f32;
+    pub safe fn probe_f32_to_word(x: f32) -> u32;
+    pub safe fn probe_u32_to_f32(n: u32) -> f32;
+    /// A C bool, read as a byte so that any byte but 0 and 1 shows.
+    pub safe fn probe_is_nearer(p: f32, a: f32, b: f32) -> u8;
+    pub safe fn probe_wrapping_mul(a: u32, b: u32) -> u32;
+    pub safe fn probe_divide_by_16384(acc: u32) -> u32;
+}

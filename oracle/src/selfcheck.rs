@@ -1,0 +1,252 @@
+//! `oracle self`: the generators and the two readers checked without any
+//! archive.
+
+use crate::args::Args;
+use crate::call::{self, Settings, FILTERS, JOINS};
+use crate::examples;
+use crate::gen::damaged_calls::{self, LabelledCall};
+use crate::gen::damaged_voices::{self, DamagedVoice, InRust};
+use crate::gen::{damaged_sheets, sheets, voices, Labelled};
+use crate::good;
+use crate::reference::{self, Fitness, Parsed};
+use crate::refusal::{shown, Refusal, REFUSALS};
+use crate::report::Report;
+use crate::rng::Rng;
+use crate::sheet;
+use crate::voicefile;
+
+/// Good cases (a voice, its extension, sheets and their calls) in a run that
+/// is not told otherwise.
+const CASES: u64 = 80;
+
+/// Random voices and sheets that are damaged in every way.
+const DAMAGED_VOICES: u64 = 12;
+const DAMAGED_SHEETS: u64 = 40;
+
+/// Damages by their number; 0 counts those just inside a limit.
+type ByNumber = [u64; REFUSALS + 1];
+
+#[derive(Default)]
+struct Counts {
+    damages: ByNumber,
+    /// Damaged voices that the Rust refuses, by number.
+    rust_refuses: ByNumber,
+    /// Damaged voices that the Rust opens: the limits that document 01 added.
+    rust_opens: ByNumber,
+    rust_panics: u64,
+    not_called: u64,
+    limit_calls: u64,
+    limit_calls_spoken: u64,
+}
+
+pub fn run(args: &Args) -> bool {
+    let mut report = Report::default();
+    let mut counts = Counts::default();
+    let mut good_counts = good::Counts::default();
+    examples::run(&mut report);
+    for case in 0..args.count.unwrap_or(CASES) {
+        good::run(args.seed, case, &mut report, &mut good_counts);
+    }
+    check_voices(args.seed, &mut report, &mut counts);
+    check_sheets(args.seed, &mut report, &mut counts);
+    check_calls(&mut report, &mut counts);
+    check_reached(&mut report, &counts.damages);
+    print(args.seed, &report, &counts, &good_counts);
+    report.failures == 0
+}
+
+fn check_voices(seed: u64, report: &mut Report, counts: &mut Counts) {
+    for case in 0..DAMAGED_VOICES {
+        let rng = &mut Rng::for_case(seed, 1_000_000 + case);
+        for voice in damaged_voices::of_random_voice(rng) {
+            check_voice(&voice, report, counts);
+        }
+    }
+    for voice in damaged_voices::large() {
+        check_voice(&voice, report, counts);
+    }
+}
+
+fn check_voice(voice: &DamagedVoice, report: &mut Report, counts: &mut Counts) {
+    let found = voicefile::open(&voice.case.bytes).err();
+    check_label(&voice.case, found, report, counts);
+    if voice.in_rust == InRust::NotCalled {
+        counts.not_called += 1;
+        return;
+    }
+    let number = voice.case.label.map_or(0, Refusal::number);
+    let reason = &voice.case.reason;
+    let large = reference::states_large_count(&voice.case.bytes);
+    report.check(!large, || format!("{reason}: the Rust must not be called"));
+    let opened = match reference::parse(&voice.case.bytes) {
+        Parsed::Voice(_) => true,
+        Parsed::Refused => false,
+        Parsed::Panicked => {
+            counts.rust_panics += 1;
+            false
+        }
+    };
+    match opened {
+        true => counts.rust_opens[number] += 1,
+        false => counts.rust_refuses[number] += 1,
+    }
+    report.equal(&(voice.in_rust == InRust::Opened), &opened, || {
+        format!("{reason}: opened by the Rust")
+    });
+}
+
+/// The reader gives exactly the label.
+fn check_label(case: &Labelled, found: Option<Refusal>, report: &mut Report, counts: &mut Counts) {
+    counts.damages[case.label.map_or(0, Refusal::number)] += 1;
+    report.check(case.label == found, || {
+        let (label, found) = (shown(case.label), shown(found));
+        format!("{}: label {label}, read {found}", case.reason)
+    });
+}
+
+fn check_sheets(seed: u64, report: &mut Report, counts: &mut Counts) {
+    let mut cases = damaged_sheets::limits();
+    for case in 0..DAMAGED_SHEETS {
+        let rng = &mut Rng::for_case(seed, 2_000_000 + case);
+        let words = voices::vocabulary(rng);
+        let small = damaged_sheets::small(rng, &words.phones);
+        cases.extend(damaged_sheets::of_sheet(&small));
+        let largest = sheets::largest(&words);
+        let found = sheet::read(&sheet::write(&largest));
+        report.check(found == Ok(largest), || "the largest sheet".into());
+    }
+    for case in &cases {
+        let found = sheet::read(&case.bytes).err();
+        check_label(case, found, report, counts);
+    }
+}
+
+fn check_calls(report: &mut Report, counts: &mut Counts) {
+    for case in damaged_calls::all() {
+        let found = refusal(&case.voice, &case.sheet, case.settings);
+        counts.limit_calls += 1;
+        counts.damages[case.label.map_or(0, Refusal::number)] += 1;
+        report.check(case.label == found, || {
+            let (label, found) = (shown(case.label), shown(found));
+            format!("{}: label {label}, found {found}", case.reason)
+        });
+        if found.is_none() {
+            counts.limit_calls_spoken += u64::from(run_accepted(&case, report));
+        }
+    }
+}
+
+/// The refusal of a whole call with 1 to 12: the voice, the sheet, the call.
+fn refusal(voice: &[u8], sheet: &[u8], settings: Settings) -> Option<Refusal> {
+    let answer = voicefile::open(voice).and_then(|voice| {
+        let sheet = sheet::read(sheet)?;
+        call::marks(&voice, &sheet, settings)
+    });
+    answer.err()
+}
+
+/// Speaks an accepted call at a limit with the Rust. False if it cannot be.
+fn run_accepted(case: &LabelledCall, report: &mut Report) -> bool {
+    let (Ok(voice), Ok(sheet)) = (voicefile::open(&case.voice), sheet::read(&case.sheet)) else {
+        return false;
+    };
+    let Ok(marks) = call::marks(&voice, &sheet, case.settings) else {
+        return false;
+    };
+    if reference::fitness(&voice, &sheet, case.settings, &marks) != Fitness::Fit {
+        return false;
+    }
+    let spoken = match reference::parse(&case.voice) {
+        Parsed::Voice(rust) => reference::quietly(|| {
+            reference::speak(&rust, &sheet, case.settings);
+            reference::fill(&rust, &sheet, case.settings).marks
+        }),
+        _ => None,
+    };
+    report.check(spoken == Some(marks), || {
+        format!("{}: the Rust panics or makes other marks", case.reason)
+    });
+    true
+}
+
+/// Every number from 1 to 12 must have been met.
+fn check_reached(report: &mut Report, damages: &ByNumber) {
+    for (number, count) in damages.iter().enumerate() {
+        report.check(*count > 0, || format!("number {number} was not reached"));
+    }
+}
+
+fn print(seed: u64, report: &Report, counts: &Counts, good: &good::Counts) {
+    println!("oracle self: seed {seed}");
+    print_good(good);
+    print_damages(counts);
+    print_calls(good);
+    println!(
+        "oracle self: {} checks, {} mismatches",
+        report.checks, report.failures
+    );
+}
+
+fn print_good(good: &good::Counts) {
+    println!(
+        "  good voices: {} ({} G.721, {} with sizes), half of them extensions",
+        good.voices, good.g721, good.with_sizes
+    );
+    println!("  good sheets: {}", good.sheets);
+    let [first, second, none] = good.found;
+    println!("  pairs: {first} found the first name tried, {second} the second, {none} none");
+}
+
+fn print_damages(counts: &Counts) {
+    println!("  just inside a limit: {}", counts.damages[0]);
+    println!("  damages by number: {}", by_number(&counts.damages));
+    println!(
+        "  damaged voices that the Rust refuses too: {} ({} by a panic)",
+        by_number(&counts.rust_refuses),
+        counts.rust_panics
+    );
+    println!(
+        "  damaged voices that the Rust opens, limits added by document 01: {}",
+        by_number(&counts.rust_opens)
+    );
+    println!(
+        "  damaged voices that the Rust is not given (memory for the stated count): {}",
+        counts.not_called
+    );
+    println!(
+        "  calls at a limit: {}, of them {} spoken by the Rust",
+        counts.limit_calls, counts.limit_calls_spoken
+    );
+}
+
+fn print_calls(good: &good::Counts) {
+    for (j, join) in JOINS.iter().enumerate() {
+        for (f, filter) in FILTERS.iter().enumerate() {
+            let [calls, periods, samples] = good.spoken[j][f];
+            println!(
+                "  join {join:?}, filter {filter:?}: {calls} calls, {periods} periods, \
+                 {samples} samples"
+            );
+        }
+    }
+    let total = |i: usize| good.spoken.iter().flatten().map(|n| n[i]).sum::<u64>();
+    println!("  periods: {}, samples: {}", total(1), total(2));
+    println!("  random calls refused: {}", by_number(&good.refused));
+    let [still, many, long] = good.guarded;
+    println!(
+        "  calls not given to the Rust: {still} time cannot advance, {many} too many marks \
+         without units, {long} too long"
+    );
+    println!("  laws on longer sheets and extended voices: {}", good.laws);
+}
+
+fn by_number(counts: &ByNumber) -> String {
+    let shown: Vec<String> = counts
+        .iter()
+        .enumerate()
+        .skip(1)
+        .filter(|(_, count)| **count > 0)
+        .map(|(number, count)| format!("{number}: {count}"))
+        .collect();
+    shown.join(", ")
+}
