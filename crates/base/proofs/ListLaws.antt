@@ -20,6 +20,10 @@ and-right true b e = e
 and-right false true e = refl
 and-right false false e = e
 
+pub every-nil : every [] ≡ true
+unfolding every
+every-nil = refl
+
 pub every-cons : (t : Bool) (ts : List Bool) → t ≡ true → every ts ≡ true → every (t ∷ ts) ≡ true
 unfolding every
 every-cons t ts e f = rw (e, f)

@@ -13,7 +13,7 @@ use Rattle.lpc.specs.Fixed.{fixedFilter}
 use Rattle.lpc.specs.Floating.{floatFilter}
 use Rattle.lpc.specs.Ring.{Ring, tap, ringAfter, ringSamples}
 use Rattle.lpc.specs.State.{freshState, fixedRing, floatRing, advancedBy, advanced, spoken, periodsBy}
-use Rattle.lpc.proofs.FilterLaws.{fixed-causal, float-causal}
+use Rattle.lpc.proofs.FilterLaws.{fixed-causal, float-causal, length-samples}
 use Rattle.lpc.proofs.RingLaws.{Holds, ring-holds, ring-samples}
 
 -- what one period leaves as it was, and what it counts
@@ -99,6 +99,7 @@ module _ (s : FilterState) (p : Part) where
     pub rest : List (List ℕ)
     pub whole : out ≡ first ∷ rest
     pub now : spoken s p ≡ first
+    pub count : length first ≡ length (p .bytes)
     pub then : Continues (advanced s p) ps rest
 
   pub steps : (ps : List Part) (out : List (List ℕ)) → length (p .row) ≤ s .order → Continues s (p ∷ ps) out → Steps ps out
@@ -110,6 +111,7 @@ module _ (s : FilterState) (p : Part) where
         rest = periodsFrom (fixedOf s) (outputs (fixedOf s) (p .row) h (p .bytes)) ps;
         whole = q;
         now = spoken-is Fixed e ∙ ring-samples (fixedOf s) (s .order) c (p .row) l (fixedRing s) h r (p .bytes);
+        count = length-samples (fixedOf s) (p .row) h (p .bytes);
         then = rw (advanced-is Fixed e) (fixed (outputs (fixedOf s) (p .row) h (p .bytes)) e (ring-holds (fixedOf s) (s .order) c (p .row) l (fixedRing s) h r (p .bytes)) refl);
       }
   steps ps out l (float h e r q) =
@@ -119,5 +121,6 @@ module _ (s : FilterState) (p : Part) where
         rest = periodsFrom (floatOf s) (outputs (floatOf s) (p .row) h (p .bytes)) ps;
         whole = q;
         now = spoken-is FloatType e ∙ ring-samples (floatOf s) (s .order) c (p .row) l (floatRing s) h r (p .bytes);
+        count = length-samples (floatOf s) (p .row) h (p .bytes);
         then = rw (advanced-is FloatType e) (float (outputs (floatOf s) (p .row) h (p .bytes)) e (ring-holds (floatOf s) (s .order) c (p .row) l (floatRing s) h r (p .bytes)) refl);
       }

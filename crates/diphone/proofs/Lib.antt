@@ -1,0 +1,4 @@
+-- Laws about diphone's definitions.
+pub mod PullLaws
+pub mod MachineLaws
+pub mod CallLaws

@@ -1,0 +1,3 @@
+-- Laws about excitation's definitions.
+pub mod TakenLaws
+pub mod SizedLaws

@@ -1,0 +1,114 @@
+-- Demand 3, over the definitions.
+use mathlib.Core.Path.{_≡_, sym, ap, subst, _∙_}
+use mathlib.Core.List.{List}
+use mathlib.Core.Option.{none}
+use Prim.Native.Nat.{ℕ, _*_}
+use native.Mathlib.Nat.{le-of-eq}
+use lib.ListN.{length, take}
+use Rattle.base.specs.Lists.{Heads}
+use Rattle.base.specs.Buffers.{flat}
+use Rattle.base.specs.Bytes.{bytesOf}
+use Rattle.base.proofs.ListLaws.{next-none, heads-by}
+use Rattle.base.proofs.BufferLaws.{flat-append}
+use Rattle.voice.specs.Opening.{openingRefusal}
+use Rattle.voice.proofs.OpeningLaws.{Opens, opens}
+use Rattle.sheet.specs.Sheet.{Sheet, sheetRefusal}
+use Rattle.sheet.proofs.SheetLaws.{sheet-refers}
+use Rattle.excitation.proofs.SizedLaws.{taken-sized}
+use Rattle.lpc.specs.declared.FilterState.{FilterState}
+use Rattle.diphone.specs.declared.Settings.{Settings}
+use Rattle.diphone.specs.Call.{planOf, periodsTaken, sizesOf, rowsOf, periodsOf, samplesOfCall}
+use Rattle.diphone.specs.Buffers.{callRefusal, checkRefusal, plannedOf, freshOf}
+use Rattle.diphone.specs.Machine.{pulls, machine, written, given, SaysDone}
+use Rattle.diphone.proofs.PullLaws.{fresh-machine}
+use Rattle.diphone.proofs.MachineLaws.{bytesOfPeriods, machine-writes, machine-done-all}
+use Rattle.diphone.proofs.CallLaws.{periods-ahead, periods-equal, rows-length}
+use Rattle.law.specs.SpokenCall.{SpokenCall, voiceIn, sheetIn, periodsIn, samplesIn, lentAfter, pullsAfter, Longer, BeginsWith}
+
+-- ---- what a spoken call shows
+
+module _ (c : SpokenCall) where
+  checked : checkRefusal (c .voiceFile) (c .sheetFile) (c .settings) ≡ none
+  unfolding callRefusal
+  checked = next-none _ _ (c .notRefused) .0
+
+  opened : Opens (voiceIn c)
+  unfolding checkRefusal
+  opened = opens (c .voiceFile) (next-none _ _ checked .0)
+
+  planned : planOf (voiceIn c) (sheetIn c) (c .settings) .refusal ≡ none
+  unfolding checkRefusal
+  planned = next-none (sheetRefusal (c .sheetFile)) _ (next-none (openingRefusal (c .voiceFile)) _ checked .1) .1
+
+  fresh : plannedOf (c .voiceFile) (c .sheetFile) (c .settings) (c .lent) .state ≡ freshOf (voiceIn c) (c .settings)
+  unfolding plannedOf
+  fresh = let e = c .notRefused in rw e
+
+rows-taken : (c : SpokenCall) → length (rowsOf (periodsTaken (voiceIn c) (sheetIn c) (c .settings))) ≡ length (sizesOf (periodsTaken (voiceIn c) (sheetIn c) (c .settings))) * voiceIn c .header .order
+unfolding periodsTaken
+rows-taken c =
+    let p = planOf (voiceIn c) (sheetIn c) (c .settings) in
+    rows-length (voiceIn c .header .order) _ (taken-sized (voiceIn c) (p .units) (p .marks))
+
+flat-heads : {A B : Type 0} (enc : A → List B) {s t : List A} → Heads s t → Heads (flat enc s) (flat enc t)
+flat-heads enc {s} h = heads-by (flat enc (h .more)) (ap (flat enc) (h .whole) ∙ flat-append enc s (h .more))
+
+-- ---- every list of pulls
+
+-- 'For every list of pulls in a spoken call, refused ones included and whatever sample slices they are lent': which of the three answers each gives, and
+-- every byte of its slice afterwards, are the plain machine's.
+pub whole-lists : (c : SpokenCall) (ds : List (List ℕ)) → pullsAfter c ds ≡ machine (periodsIn c) 0 ds
+unfolding pullsAfter lentAfter freshOf periodsOf
+whole-lists c ds =
+    let v = voiceIn c in
+    let ps = periodsTaken v (sheetIn c) (c .settings) in
+    let o = opened c in
+    let r : length (rowsOf ps) ≡ length (sizesOf ps) * v .header .order = rows-taken c in
+    ap (λ (s : FilterState). pulls s (lentAfter c) ds) (fresh c)
+    ∙ fresh-machine (c .settings .filter) (v .header .order) (v .header .«coeff_min») (v .header .«coeff_range») (lentAfter c) ds (o .orderLow) (o .leastIn) (o .rangeIn) (le-of-eq (sym r))
+
+-- 'what they wrote, joined in order, is the samples of as many periods as they gave, from the first on'
+pub whole-lists-written : (c : SpokenCall) (ds : List (List ℕ)) → written (pullsAfter c ds) ≡ bytesOfPeriods (take (given (pullsAfter c ds)) (periodsIn c))
+whole-lists-written c ds = let e = whole-lists c ds in rw e (machine-writes (periodsIn c) ds)
+
+-- once a pull says done, all samples of the call were written
+pub whole-lists-done : (c : SpokenCall) (ds : List (List ℕ)) → SaysDone (pullsAfter c ds) → written (pullsAfter c ds) ≡ flat (bytesOf 2) (samplesIn c)
+unfolding samplesOfCall
+whole-lists-done c ds s = let e = whole-lists c ds in rw e (machine-done-all (periodsIn c) ds (rw e at s))
+
+-- ---- a longer sheet on an extended voice
+
+-- the periods of the first call are the first periods of the second, sample for sample
+pub extension : (c d : SpokenCall) → Longer d c → BeginsWith d c (periodsIn d) (periodsIn c)
+extension c d l =
+    let h = periods-ahead (voiceIn c) (voiceIn d) (l .extends) (opened c) (opened d) (sheetIn c) (sheetIn d) (l .begins) (sheet-refers (c .sheetFile)) (c .settings) (l .found) (planned c) in
+    let e = periods-equal (voiceIn c) (voiceIn d) (l .extends) (opened c) (opened d) (sheetIn c) (sheetIn d) (l .begins) (sheet-refers (c .sheetFile)) (c .settings) (l .found) (planned c) in
+    record {
+      heads = subst (λ (o : Settings). Heads (periodsIn c) (periodsOf (voiceIn d) (sheetIn d) o)) (sym (l .settings)) h;
+      equal = λ q. ap (λ (o : Settings). periodsOf (voiceIn d) (sheetIn d) o) (l .settings) ∙ ap (λ (s : Sheet). periodsOf (voiceIn d) s (c .settings)) q ∙ e;
+    }
+
+-- so with all samples joined
+pub extension-samples : (c d : SpokenCall) → Longer d c → BeginsWith d c (samplesIn d) (samplesIn c)
+unfolding samplesOfCall
+extension-samples c d l =
+    let x = extension c d l in
+    record {
+      heads = flat-heads (λ (p : List ℕ). p) (x .heads);
+      equal = λ e. ap (flat (λ (p : List ℕ). p)) (x .equal e);
+    }
+
+-- ---- demand 3
+
+-- 'whatever slices the pulls of either are lent, the samples that the first has written when it says done begin those that the second has written at its
+-- own done, and are all of them if the sheets are equal'
+pub demand3 : (c d : SpokenCall) → Longer d c → (ds es : List (List ℕ)) → SaysDone (pullsAfter c ds) → SaysDone (pullsAfter d es)
+    → BeginsWith d c (written (pullsAfter d es)) (written (pullsAfter c ds))
+demand3 c d l ds es s t =
+    let x = extension-samples c d l in
+    let a = whole-lists-done c ds s in
+    let b = whole-lists-done d es t in
+    record {
+      heads = rw (a, b) (flat-heads (bytesOf 2) (x .heads));
+      equal = λ e. b ∙ ap (flat (bytesOf 2)) (x .equal e) ∙ sym a;
+    }

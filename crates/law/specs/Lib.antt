@@ -1,0 +1,2 @@
+-- The root of law's definitions.
+pub mod SpokenCall

@@ -1,0 +1,61 @@
+-- Document 01: 'A spoken call is a call not refused and any list of pulls after it.'
+use mathlib.Core.Path.{_≡_}
+use mathlib.Core.Bool.{true}
+use mathlib.Core.List.{List}
+use mathlib.Core.Option.{none}
+use Prim.Native.Nat.{ℕ}
+use Rattle.base.specs.Lists.{Heads}
+use Rattle.voice.specs.Voice.{Voice, voiceOf}
+use Rattle.voice.specs.Extends.{Extends}
+use Rattle.sheet.specs.Sheet.{Sheet, sheetOf}
+use Rattle.sheet.specs.Begins.{Begins}
+use Rattle.units.specs.Selecting.{firstTriedFound}
+use Rattle.diphone.specs.declared.Settings.{Settings}
+use Rattle.diphone.specs.Call.{periodsTaken, sizesOf, rowsOf, excitationOf, periodsOf, samplesOfCall}
+use Rattle.diphone.specs.Buffers.{Buffers, callRefusal, plannedOf}
+use Rattle.diphone.specs.Pull.{Lent}
+use Rattle.diphone.specs.Machine.{Shown, pulls}
+
+-- the voice file and the sheet, the settings, the buffers as they were lent, and that the call was not refused
+pub record SpokenCall : Type 0 where
+  pub voiceFile : List ℕ
+  pub sheetFile : List ℕ
+  pub settings : Settings
+  pub lent : Buffers
+  pub notRefused : callRefusal voiceFile sheetFile settings lent ≡ none
+
+abbrev pub voiceIn : SpokenCall → Voice
+voiceIn c = voiceOf (c .voiceFile)
+
+abbrev pub sheetIn : SpokenCall → Sheet
+sheetIn c = sheetOf (c .sheetFile)
+
+-- the periods of samples that demand 2 defines for the call, and all its samples
+abbrev pub periodsIn : SpokenCall → List (List ℕ)
+periodsIn c = periodsOf (voiceIn c) (sheetIn c) (c .settings)
+
+abbrev pub samplesIn : SpokenCall → List ℕ
+samplesIn c = samplesOfCall (voiceIn c) (sheetIn c) (c .settings)
+
+-- 'All are lent the sizes, rows and excitation just as far as the call filled them, unwritten meanwhile'
+unfoldable pub lentAfter : SpokenCall → Lent
+lentAfter c =
+    let ps = periodsTaken (voiceIn c) (sheetIn c) (c .settings) in
+    record { sizes = sizesOf ps; rows = rowsOf ps; excitation = excitationOf ps }
+
+-- 'The first pull gets the call's fresh filter state, each other the state the last one returned or left', and each 'a sample slice of any length'
+unfoldable pub pullsAfter : SpokenCall → List (List ℕ) → List Shown
+pullsAfter c ds = pulls (plannedOf (c .voiceFile) (c .sheetFile) (c .settings) (c .lent) .state) (lentAfter c) ds
+
+-- Demand 3: 'Now take two spoken calls under the same settings, let the second voice extend the first and the second sheet begin with all segments and
+-- targets of the first. If each pair of the first sheet finds its first-tried name in the first voice ..'
+pub record Longer (d c : SpokenCall) : Type 0 where
+  pub settings : d .settings ≡ c .settings
+  pub extends : Extends (voiceIn d) (voiceIn c)
+  pub begins : Begins (sheetIn d) (sheetIn c)
+  pub found : firstTriedFound (voiceIn c) (c .settings .fold) (sheetIn c .segments) ≡ true
+
+-- '.. begin those .., and are all of them if the sheets are equal'
+pub record BeginsWith {A : Type 0} (d c : SpokenCall) (longer shorter : List A) : Type 0 where
+  pub heads : Heads shorter longer
+  pub equal : sheetIn d ≡ sheetIn c → longer ≡ shorter
