@@ -1,2 +1,3 @@
 -- The root of law's definitions.
 pub mod SpokenCall
+pub mod ProvedExamples

@@ -12,7 +12,7 @@ use Rattle.base.proofs.ListLaws.{heads-nil, heads-cons}
 use Rattle.ulaw.specs.Ulaw.{sampleOf}
 use Rattle.lpc.specs.declared.ResynthType.{ResynthType}
 use Rattle.lpc.specs.declared.ResynthType.the-variants.{Fixed, Float as FloatType}
-use Rattle.lpc.specs.Filter.{Filter, Part, cut, outputs, samples, periodsFrom}
+use Rattle.lpc.specs.Filter.{Filter, Part, cut, samples, periodsFrom}
 use Rattle.lpc.specs.Fixed.{scaledBy, rowValue, fixedSum, divided, fixedNext, fixedFilter}
 use Rattle.lpc.specs.Floating.{floatValue, floatSum, floatNext, floatFilter}
 use Rattle.lpc.specs.State.{periodsBy}
@@ -71,7 +71,7 @@ length-by FloatType least range ps = length-periods (floatFilter least range) []
 periods-append : {A : Type 0} (f : Filter A) (h : List A) (ps qs : List Part) → Heads (periodsFrom f h ps) (periodsFrom f h (ps ++ qs))
 unfolding periodsFrom
 periods-append f h [] qs = heads-nil _
-periods-append f h (p ∷ ps) qs = heads-cons _ (periods-append f (outputs f (p .row) h (p .bytes)) ps qs)
+periods-append f h (p ∷ ps) qs = heads-cons _ (periods-append f _ ps qs)
 
 pub by-append : (t : ResynthType) (least range : Float) (ps qs : List Part) → Heads (periodsBy t least range ps) (periodsBy t least range (ps ++ qs))
 unfolding periodsBy
