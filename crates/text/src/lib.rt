@@ -2,6 +2,7 @@
 ghost use mathlib.Core.Path.{_≡_};
 ghost use lib.Dec.{eqb};
 ghost use Rattle.base.specs.Choice.{pick};
+ghost use Rattle.text.specs.Names as names;
 ghost use Rattle.text.specs.Utf8 as utf8s;
 
 // Between two bytes of a text: how many bytes the character still needs, and the bounds of the next
@@ -85,4 +86,45 @@ pub fn utf8(s: &[u8]) -> bool
         i += 1;
     }
     complete(w)
+}
+
+// How one name stands to another in the order by bytes.
+pub enum Order {
+    Before,
+    Same,
+    After,
+}
+
+// How the name a stands to the name b.
+pub fn compare(a: &[u8], b: &[u8]) -> Order
+    ensures { λ r. ⌜ r ≡ names.orderOf (now (a .entry)) (now (b .entry)) ⌝ }
+{
+    let mut i = 0;
+    while i < a.len() {
+        if b.len() <= i {
+            return Order::After;
+        }
+        if a[i] < b[i] {
+            return Order::Before;
+        }
+        if b[i] < a[i] {
+            return Order::After;
+        }
+        i += 1;
+    }
+    if i < b.len() {
+        return Order::Before;
+    }
+    Order::Same
+}
+
+// Whether two names are the same.
+pub fn same(a: &[u8], b: &[u8]) -> bool
+    ensures { λ r. ⌜ r ≡ names.same (now (a .entry)) (now (b .entry)) ⌝ }
+{
+    match compare(a, b) {
+        Order::Before => false,
+        Order::Same => true,
+        Order::After => false,
+    }
 }
