@@ -1,0 +1,2 @@
+-- Laws about the tables and the scale's products.
+pub mod ScaleLaws
