@@ -1,2 +1,2 @@
--- Laws about the tables and the scale's products.
+-- Laws about the tables.
 pub mod ScaleLaws

@@ -1,8 +1,6 @@
--- What the tables and the products of MIX are below.
+-- What a table by the code is below.
 use mathlib.Core.List.{List, [], _∷_}
-use Prim.Native.Nat.{ℕ, _*_, _<_, _≤_}
-use native.Mathlib.Nat.{mul-le-mul}
-use native.Mathlib.Omega.{arith}
+use Prim.Native.Nat.{ℕ, _<_}
 use lib.Dec.{T, ltb, ltb→lt}
 use Rattle.base.specs.Tables.{passes}
 use Rattle.base.proofs.TableLaws.{at}
@@ -14,7 +12,3 @@ codes = 0 ∷ 1 ∷ 2 ∷ 3 ∷ 4 ∷ 5 ∷ 6 ∷ 7 ∷ 8 ∷ 9 ∷ 10 ∷ 11 �
 pub code-lt : (f : ℕ → ℕ) (n : ℕ) (t : T (passes (λ i x. ltb (f i) n) 0 codes)) (i : ℕ) → i < 16 → f i < n
 unfolding codes
 code-lt f n t i h = ltb→lt (f i) n (at (λ i x. ltb (f i) n) codes t i h)
-
--- a difference of the scale factors times AL
-pub product-le : (dif al : ℕ) → dif < 16384 → al ≤ 64 → dif * al ≤ 1048576
-product-le dif al h k = mul-le-mul {n₂ = 16384} {m₂ = 64} (omega arith) k

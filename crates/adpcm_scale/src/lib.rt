@@ -2,7 +2,7 @@
 // four bits. A `requires` here is a word length of the Recommendation's list of signals; the
 // caller's state keeps it, and the caller has split its bytes into codes.
 ghost use mathlib.Core.Path.{_≡_};
-ghost use Prim.Native.Nat.{_<_, _≤_};
+ghost use Prim.Native.Nat.{_*_, _/_, _<_, _≤_};
 ghost use Rattle.adpcm_scale.specs.Scale as block;
 ghost use Rattle.adpcm_scale.specs.Words.{SpeedWords};
 
@@ -114,6 +114,14 @@ pub fn filte(yup: u16, yl: u32) -> u32
     (yl + dif + 507904 * (dif / 8192)) % 524288
 }
 
+// MIX: a difference of the two factors times AL.
+fn prod(dif: u32, al: u32) -> u32
+    requires { ⌜ (dif < 16384) × (al ≤ 64) ⌝ }
+    ensures { λ r. ⌜ (r ≡ dif * al / 64) × (r ≤ 16384) ⌝ }
+{
+    dif * al / 64
+}
+
 // MIX: the scale between the slow and the fast factor.
 pub fn mix(al: u32, yu: u16, yl: u32) -> u16
     requires { ⌜ (al ≤ 64) × ((yu < 8192) × (yl < 524288)) ⌝ }
@@ -122,10 +130,10 @@ pub fn mix(al: u32, yu: u16, yl: u32) -> u16
     let slow = yl / 64;
     let dif = ((yu as u32) + 16384 - slow) % 16384;
     if dif < 8192 {
-        ((slow + dif * al / 64) % 8192) as u16
+        ((slow + prod(dif, al)) % 8192) as u16
     } else {
-        let prod = (16384 - dif) % 8192 * al / 64;
-        ((slow + (16384 - prod) % 16384) % 8192) as u16
+        let below = prod((16384 - dif) % 8192, al);
+        ((slow + (16384 - below) % 16384) % 8192) as u16
     }
 }
 

@@ -1,8 +1,6 @@
-use Prim.Native.Nat.{_%_, _+_, _-_, _/_}
 use native.Mathlib.Omega.{arith}
 use borrow.Author.Needs.{needs}
 use borrow.Author.Tests.{le-ltb, lt-ltb}
-use Rattle.adpcm_scale.proofs.ScaleLaws.{product-le}
 use Rattle.adpcm_scale.specs.Scale.{mix}
 use Rattle.adpcm_scale.proofs.mix.Statement.{statement}
 use Rattle.adpcm_scale.proofs.mix.Tie as tie
@@ -13,15 +11,11 @@ add-dif c = search needs
 sub-dif : tie.Need-sub-dif
 sub-dif c = search needs
 
-mul-result : tie.Need-mul-result
-mul-result c =
-    let a = c .before .args in
-    omega (arith, product-le ((a .yu + 16384 - a .yl / 64) % 16384) (a .al) (omega arith) (c .before .pre .0))
+prod-requires : tie.Need-prod-requires
+prod-requires c κs = search needs
 
 add-result : tie.Need-add-result
-add-result c =
-    let a = c .before .args in
-    omega (arith, product-le ((a .yu + 16384 - a .yl / 64) % 16384) (a .al) (omega arith) (c .before .pre .0))
+add-result c = search needs
 
 cast-result : tie.Need-cast-result
 cast-result c = search needs
@@ -29,15 +23,11 @@ cast-result c = search needs
 sub-prod : tie.Need-sub-prod
 sub-prod c = search needs
 
-mul-prod : tie.Need-mul-prod
-mul-prod c =
-    let a = c .before .args in
-    omega (arith, product-le ((16384 - (a .yu + 16384 - a .yl / 64) % 16384) % 8192) (a .al) (omega arith) (c .before .pre .0))
+prod-requires-2 : tie.Need-prod-requires-2
+prod-requires-2 c κs = search needs
 
 sub-result : tie.Need-sub-result
-sub-result c =
-    let a = c .before .args in
-    omega (arith, product-le ((16384 - (a .yu + 16384 - a .yl / 64) % 16384) % 8192) (a .al) (omega arith) (c .before .pre .0))
+sub-result c = search needs
 
 add-result-2 : tie.Need-add-result-2
 add-result-2 c = search needs
@@ -47,11 +37,11 @@ cast-result-2 c = search needs
 
 returns : tie.Need-returns
 unfolding mix
-returns c = (rw (lt-ltb _ _ (c .if1 .taken)), omega arith)
+returns c = (rw (lt-ltb _ _ (c .before .if1 .taken), c .prod .ensures .0), omega arith)
 
 returns-2 : tie.Need-returns-2
 unfolding mix
-returns-2 c = (rw (le-ltb _ _ (c .if1 .left)), omega arith)
+returns-2 c = (rw (le-ltb _ _ (c .before .if1 .left), c .prod2 .ensures .0), omega arith)
 
 pub mix-spec : {M : Type 1} → statement M
 mix-spec =
@@ -59,11 +49,11 @@ mix-spec =
     (tie.spec
     add-dif
     sub-dif
-    mul-result
+    prod-requires
     add-result
     cast-result
     sub-prod
-    mul-prod
+    prod-requires-2
     sub-result
     add-result-2
     cast-result-2
