@@ -1,9 +1,14 @@
 // Leaf functions, exported so that the comparison with the Rust can call them.
 ghost use mathlib.Core.Path.{_≡_};
-ghost use Prim.Native.Nat.{_*_, _%_, _^_};
+ghost use Prim.Native.Nat.{_*_, _/_, _%_, _^_};
+ghost use lib.Dec.{leb};
 ghost use lib.IntN.{pos};
 ghost use lib.Ieee.{binary32, ofBits, toBits, ofInt, toSigned, toUnsigned};
+ghost use lib.ListN.{length};
 ghost use lib.Signed.{quotZ};
+ghost use Rattle.adpcm.specs.Decoder.{decoded};
+ghost use Rattle.base.specs.Buffers.{over};
+ghost use Rattle.base.specs.Choice.{pick};
 ghost use Rattle.base.specs.Words.{low, signed32};
 ghost use Rattle.float.specs.Casts.{narrow, clamped};
 ghost use Rattle.float.specs.Distance.{nearer};
@@ -110,4 +115,20 @@ pub extern "C" fn probe_divide_by_16384(word: u32) -> u32
     ensures { λ r. ⌜ r ≡ low 32 (quotZ (signed32 word) (pos 16384)) ⌝ }
 {
     base::words::divide_by_16384(word)
+}
+
+// Rust's `decode_adpcm`, into a lent buffer: where it is too short, nothing is written.
+#[no_mangle]
+pub extern "C" fn probe_decode_adpcm(packed: &[u8], out: &mut [u8])
+    ensures { λ _.
+        ⌜
+        now (out .exit) ≡
+        pick (leb (length (now (packed .entry))) (length (now (out .entry)) / 2))
+        (over (decoded (now (packed .entry))) (now (out .entry)))
+        (now (out .entry))
+        ⌝ }
+{
+    if packed.len() <= out.len() / 2 {
+        adpcm::decode_adpcm(packed, out);
+    }
 }
