@@ -1,2 +1,3 @@
 -- Laws about marks' definitions.
 pub mod MarkLaws
+pub mod LimitLaws
