@@ -16,10 +16,6 @@ module _ {A : Type 0} where
   each-all P p [] = nil
   each-all P p (x ∷ xs) = cons (p x) (each-all P p xs)
 
-  pub each-so : (P Q : A → Type 0) → ((x : A) → P x → Q x) → (xs : List A) → Each P xs → Each Q xs
-  each-so P Q f [] nil = nil
-  each-so P Q f (x ∷ xs) (cons p e) = cons (f x p) (each-so P Q f xs e)
-
   pub each-append : (P : A → Type 0) (xs ys : List A) → Each P xs → Each P ys → Each P (xs ++ ys)
   each-append P [] ys nil e = e
   each-append P (x ∷ xs) ys (cons p d) e = cons p (each-append P xs ys d e)

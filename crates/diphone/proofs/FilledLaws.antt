@@ -1,5 +1,5 @@
 -- The numbers that a call fills in are read back from its buffers: none is too great for its bytes.
-use mathlib.Core.Path.{_≡_, refl, sym, ap, _∙_}
+use mathlib.Core.Path.{_≡_, refl, ap, _∙_}
 use mathlib.Core.Bool.{Bool, true, false}
 use mathlib.Core.List.{List}
 use mathlib.Core.Option.{none}
@@ -10,7 +10,7 @@ use lib.ListN.{length, take, length-map}
 use Rattle.base.specs.Buffers.{over, flat}
 use Rattle.base.specs.Bytes.{Bytes, bytesOf, elements}
 use Rattle.base.proofs.ListLaws.{next-none}
-use Rattle.base.proofs.BoundLaws.{Each, nil}
+use Rattle.base.proofs.BoundLaws.{Each, nil, Below, below-flat}
 use Rattle.base.proofs.BufferLaws.{take-over, length-flat}
 use Rattle.base.proofs.ByteLaws.{length-bytesOf, elements-flat}
 use Rattle.voice.specs.Voice.{Voice, voiceOf}
@@ -24,12 +24,12 @@ use Rattle.marks.specs.NaturalMarks.{naturalMarks}
 use Rattle.marks.proofs.LimitLaws.{Low, refusal-low, marks-low}
 use Rattle.excitation.specs.Taken.{Period}
 use Rattle.excitation.proofs.SizedLaws.{taken-sized, taken-sizes, taken-rows}
+use Rattle.lpc.proofs.FilterLaws as filter
 use Rattle.diphone.specs.declared.JoinType.{JoinType}
 use Rattle.diphone.specs.declared.JoinType.the-variants.{None, Simple, ModifiedLpc}
 use Rattle.diphone.specs.declared.Settings.{Settings}
-use Rattle.diphone.specs.Call.{simplePlan, modifiedPlan, planBy, planOf, periodsTaken, sizesOf, rowsOf, excitationOf}
+use Rattle.diphone.specs.Call.{simplePlan, modifiedPlan, planBy, planOf, periodsTaken, sizesOf, rowsOf, excitationOf, partsOf, periodsOf, samplesOfCall}
 use Rattle.diphone.specs.Buffers.{Buffers, filled, checkRefusal, callRefusal, summaryOf}
-use Rattle.diphone.specs.Pull.{Lent, lentOf}
 use Rattle.diphone.proofs.CallLaws.{twoSegments, rows-length}
 
 -- ---- the marks
@@ -59,17 +59,17 @@ plan-low v s o e = by (ltb (length (s .segments)) 2) e
 front : (k : ℕ) (ws d : List ℕ) (n : ℕ) → length ws ≡ n → take (k * n) (over (flat (bytesOf k) ws) d) ≡ flat (bytesOf k) ws
 front k ws d n e = take-over (flat (bytesOf k) ws) d (k * n) (length-flat (bytesOf k) k (length-bytesOf k) ws ∙ ap (λ (m : ℕ). k * m) e)
 
-module _ (v : Voice) (s : Sheet) (o : Settings) (h : Bytes (v .lpc)) (e : planOf v s o .refusal ≡ none) where
+module _ (v : Voice) (s : Sheet) (o : Settings) where
   abbrev ps : List Period
   ps = periodsTaken v s o
 
-  sizes-back : elements 4 (flat (bytesOf 4) (sizesOf ps)) ≡ sizesOf ps
+  sizes-back : planOf v s o .refusal ≡ none → elements 4 (flat (bytesOf 4) (sizesOf ps)) ≡ sizesOf ps
   unfolding sizesOf periodsTaken
-  sizes-back = elements-flat 4 (sizesOf ps) (omega arith) (taken-sizes v (planOf v s o .units) (planOf v s o .marks) (plan-low v s o e))
+  sizes-back e = elements-flat 4 (sizesOf ps) (omega arith) (taken-sizes v (planOf v s o .units) (planOf v s o .marks) (plan-low v s o e))
 
-  rows-back : elements 2 (flat (bytesOf 2) (rowsOf ps)) ≡ rowsOf ps
+  rows-back : Bytes (v .lpc) → elements 2 (flat (bytesOf 2) (rowsOf ps)) ≡ rowsOf ps
   unfolding rowsOf periodsTaken
-  rows-back = elements-flat 2 (rowsOf ps) (omega arith) (taken-rows v (planOf v s o .units) (planOf v s o .marks) h)
+  rows-back h = elements-flat 2 (rowsOf ps) (omega arith) (taken-rows v (planOf v s o .units) (planOf v s o .marks) h)
 
   sizes-count : length (sizesOf ps) ≡ length ps
   unfolding sizesOf
@@ -79,14 +79,24 @@ module _ (v : Voice) (s : Sheet) (o : Settings) (h : Bytes (v .lpc)) (e : planOf
   unfolding periodsTaken
   rows-count = rows-length (v .header .order) ps (taken-sized v (planOf v s o .units) (planOf v s o .marks)) ∙ ap (λ (n : ℕ). n * v .header .order) sizes-count
 
-  pub sizes-front : (d : List ℕ) → elements 4 (take (4 * summaryOf v s o .periods) (over (filled v s o .sizes) d)) ≡ sizesOf ps
+  pub sizes-front : planOf v s o .refusal ≡ none → (d : List ℕ) → elements 4 (take (4 * summaryOf v s o .periods) (over (filled v s o .sizes) d)) ≡ sizesOf ps
   unfolding summaryOf filled
-  sizes-front d = ap (elements 4) (front 4 (sizesOf ps) d (length ps) sizes-count) ∙ sizes-back
+  sizes-front e d = ap (elements 4) (front 4 (sizesOf ps) d (length ps) sizes-count) ∙ sizes-back e
 
-  pub rows-front : (d : List ℕ) → elements 2 (take (2 * (summaryOf v s o .periods * summaryOf v s o .order)) (over (filled v s o .rows) d)) ≡ rowsOf ps
+  pub rows-front : Bytes (v .lpc) → (d : List ℕ) → elements 2 (take (2 * (summaryOf v s o .periods * summaryOf v s o .order)) (over (filled v s o .rows) d)) ≡ rowsOf ps
   unfolding summaryOf filled
-  rows-front d = ap (elements 2) (front 2 (rowsOf ps) d (length ps * v .header .order) rows-count) ∙ rows-back
+  rows-front h d = ap (elements 2) (front 2 (rowsOf ps) d (length ps * v .header .order) rows-count) ∙ rows-back h
 
   pub excitation-front : (d : List ℕ) → take (summaryOf v s o .samples) (over (filled v s o .excitation) d) ≡ excitationOf ps
   unfolding summaryOf filled
   excitation-front d = take-over (excitationOf ps) d (length (excitationOf ps)) refl
+
+-- ---- the samples of a call, from the bytes that its pulls write
+
+pub samples-low : (v : Voice) (s : Sheet) (o : Settings) → Below 65536 (samplesOfCall v s o)
+unfolding samplesOfCall periodsOf
+samples-low v s o =
+    below-flat 65536 (omega arith) (λ (p : List ℕ). p) (periodsOf v s o) (filter.by-low (o .filter) (v .header .«coeff_min») (v .header .«coeff_range») (partsOf v (periodsTaken v s o)))
+
+pub samples-back : (v : Voice) (s : Sheet) (o : Settings) → elements 2 (flat (bytesOf 2) (samplesOfCall v s o)) ≡ samplesOfCall v s o
+samples-back v s o = elements-flat 2 (samplesOfCall v s o) (omega arith) (samples-low v s o)

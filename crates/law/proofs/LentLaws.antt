@@ -2,7 +2,7 @@
 use mathlib.Core.Path.{_≡_}
 use Rattle.voice.proofs.LowLaws.{lpc-bytes}
 use Rattle.diphone.specs.Call.{periodsTaken, sizesOf, rowsOf, excitationOf}
-use Rattle.diphone.specs.Buffers.{callRefusal, buffersAfter}
+use Rattle.diphone.specs.Buffers.{buffersAfter}
 use Rattle.diphone.specs.Pull.{Lent, lentOf}
 use Rattle.diphone.proofs.FilledLaws.{call-planned, sizes-front, rows-front, excitation-front}
 use Rattle.law.specs.SpokenCall.{SpokenCall, voiceIn, sheetIn, lentAfter}
@@ -18,8 +18,10 @@ unfolding lentAfter lentOf buffersAfter
 lent-filled c =
     let v = voiceIn c in
     let s = sheetIn c in
-    let h = lpc-bytes (c .voiceFile) (c .bytes) in
-    let e = call-planned (c .voiceFile) (c .sheetFile) (c .settings) (c .lent) (c .notRefused) in
-    let n = c .notRefused in
+    let o = c .settings in
     let b = c .lent in
-    rw (n, sizes-front v s (c .settings) h e (b .sizes), rows-front v s (c .settings) h e (b .rows), excitation-front v s (c .settings) h e (b .excitation))
+    let n = c .notRefused in
+    let sizes = sizes-front v s o (call-planned (c .voiceFile) (c .sheetFile) o b n) (b .sizes) in
+    let rows = rows-front v s o (lpc-bytes (c .voiceFile) (c .bytes)) (b .rows) in
+    let excitation = excitation-front v s o (b .excitation) in
+    rw (n, sizes, rows, excitation)
