@@ -3,7 +3,7 @@ use mathlib.Core.Path.{_≡_, refl, sym, ap, _∙_}
 use mathlib.Core.Bool.{Bool, true, false}
 use mathlib.Core.List.{List, [], _∷_, map, map-append}
 use mathlib.Core.Option.{none}
-use Prim.Native.Nat.{ℕ, _*_, _≤_}
+use Prim.Native.Nat.{ℕ, _+_, _*_, _≤_}
 use native.Mathlib.Nat.{zero-mul, suc-mul}
 use native.Mathlib.Omega.{arith}
 use borrow.Author.Tests.{ltb-false, le-ltb}
@@ -14,7 +14,7 @@ use lib.Seq.{take-at, drop-at}
 use Rattle.base.specs.Buffers.{flat}
 use Rattle.base.specs.Lists.{Heads}
 use Rattle.base.proofs.ListLaws.{heads-nil, next-none}
-use Rattle.base.proofs.BoundLaws.{nil, cons}
+use Rattle.base.proofs.BoundLaws.{cons}
 use Rattle.voice.specs.Voice.{Voice}
 use Rattle.voice.specs.Extends.{Extends}
 use Rattle.voice.proofs.OpeningLaws.{Opens}
@@ -61,6 +61,20 @@ unfolding sizesOf rowsOf flat
 rows-length order [] s = sym (zero-mul order)
 rows-length order (p ∷ ps) (cons (l, m) s) =
     length-append (p .row) (rowsOf ps) ∙ simp (l, rows-length order ps s, suc-mul) (omega arith)
+
+-- 'Taken sizes sum to the excitation length'
+abbrev pub total : List ℕ → ℕ
+total [] = 0
+total (n ∷ ns) = n + total ns
+
+sizes-total : (order : ℕ) (ps : List Period) → Sized order ps → total (sizesOf ps) ≡ length (excitationOf ps)
+unfolding sizesOf excitationOf flat
+sizes-total order [] s = refl
+sizes-total order (p ∷ ps) (cons (l, m) s) = rw (sizes-total order ps s, length-append) (omega arith)
+
+pub taken-total : (v : Voice) (s : Sheet) (o : Settings) → total (sizesOf (periodsTaken v s o)) ≡ length (excitationOf (periodsTaken v s o))
+unfolding periodsTaken
+taken-total v s o = sizes-total (v .header .order) (periodsTaken v s o) (taken-sized v (planOf v s o .units) (planOf v s o .marks))
 
 -- the samples of taken periods
 soundOf : ResynthType → Float → Float → List Period → List (List ℕ)

@@ -86,6 +86,7 @@ pub record Stage : Type 0 where
   pub f0 : Float
   pub left : ℕ
 
+-- at first: time 0, position 0, 'first f0 120' (15 × 2 ^ 3)
 abbrev pub firstStage : Stage
 firstStage = record { time = fin false 0 (pos 0); position = fin false 0 (pos 0); f0 = fin false 15 (pos 3); left = mostMarks }
 

@@ -18,7 +18,7 @@ use Rattle.units.specs.Selecting.{entryOf}
 unfoldable pub samplesAt : ℕ → Float → ℕ
 samplesAt rate time = toUnsigned 64 (mul binary32 time (ofInt binary32 (pos rate)))
 
--- '(left + right) / 2', in f32
+-- '(left + right) / 2', in f32 (`fin false 1 (pos 1)` is 2)
 unfoldable pub midway : Float → Float → Float
 midway left right = div binary32 (add binary32 left right) (fin false 1 (pos 1))
 
