@@ -27,7 +27,8 @@ use Rattle.diphone.specs.Machine.{Shown, pulls, shows, machine, written, bytesO
 use Rattle.diphone.proofs.PullLaws.{shows-done, fresh-machine}
 use Rattle.diphone.proofs.MachineLaws.{machine-writes, machine-at, machine-within, before-within, shows-done-all, shows-refused, machine-done-all}
 use Rattle.diphone.proofs.CallLaws.{periods-ahead, periods-equal, rows-length}
-use Rattle.law.specs.SpokenCall.{SpokenCall, voiceIn, sheetIn, periodsIn, samplesIn, lentAfter, pullsAfter, Longer, BeginsWith}
+use Rattle.law.proofs.LentLaws.{lentTaken, lent-filled}
+use Rattle.law.specs.SpokenCall.{SpokenCall, voiceIn, sheetIn, periodsIn, samplesIn, pullsAfter, Longer, BeginsWith}
 use Rattle.law.specs.Demand3.{Demand3, answerAt, givenBefore}
 
 -- ---- what a spoken call shows
@@ -63,14 +64,15 @@ flat-heads enc {s} h = heads-by (flat enc (h .more)) (ap (flat enc) (h .whole) �
 -- 'For every list of pulls in a spoken call, refused ones included and whatever sample slices they are lent': which of the three answers each gives, and
 -- every byte of its slice afterwards, are the plain machine's.
 pub whole-lists : (c : SpokenCall) (ds : List (List ℕ)) → pullsAfter c ds ≡ machine (periodsIn c) 0 ds
-unfolding pullsAfter lentAfter freshOf periodsOf
+unfolding pullsAfter freshOf periodsOf
 whole-lists c ds =
     let v = voiceIn c in
     let ps = periodsTaken v (sheetIn c) (c .settings) in
     let o = opened c in
     let r : length (rowsOf ps) ≡ length (sizesOf ps) * v .header .order = rows-taken c in
-    ap (λ (s : FilterState). pulls s (lentAfter c) ds) (fresh c)
-    ∙ fresh-machine (c .settings .filter) (v .header .order) (v .header .«coeff_min») (v .header .«coeff_range») (lentAfter c) ds (o .orderLow) (o .leastIn) (o .rangeIn) (le-of-eq (sym r))
+    rw (lent-filled c)
+    (ap (λ (s : FilterState). pulls s (lentTaken c) ds) (fresh c)
+    ∙ fresh-machine (c .settings .filter) (v .header .order) (v .header .«coeff_min») (v .header .«coeff_range») (lentTaken c) ds (o .orderLow) (o .leastIn) (o .rangeIn) (le-of-eq (sym r)))
 
 -- 'what they wrote, joined in order, is the samples of as many periods as they gave, from the first on'
 pub whole-lists-written : (c : SpokenCall) (ds : List (List ℕ)) → written (pullsAfter c ds) ≡ bytesOfPeriods (take (given (pullsAfter c ds)) (periodsIn c))
