@@ -20,6 +20,11 @@ module _ {A : Type 0} where
   each-append P [] ys nil e = e
   each-append P (x ∷ xs) ys (cons p d) e = cons p (each-append P xs ys d e)
 
+  pub each-take : (P : A → Type 0) (n : ℕ) (xs : List A) → Each P xs → Each P (take n xs)
+  each-take P zero xs e = nil
+  each-take P (suc n) [] nil = nil
+  each-take P (suc n) (x ∷ xs) (cons p e) = cons p (each-take P n xs e)
+
 -- ---- numbers below b; a place past the end counts 0
 
 abbrev pub Below : ℕ → List ℕ → Type 0

@@ -28,8 +28,9 @@ use Rattle.lpc.proofs.FilterLaws as filter
 use Rattle.diphone.specs.declared.JoinType.{JoinType}
 use Rattle.diphone.specs.declared.JoinType.the-variants.{None, Simple, ModifiedLpc}
 use Rattle.diphone.specs.declared.Settings.{Settings}
-use Rattle.diphone.specs.Call.{simplePlan, modifiedPlan, planBy, planOf, periodsTaken, sizesOf, rowsOf, excitationOf, partsOf, periodsOf, samplesOfCall}
+use Rattle.diphone.specs.Call.{simplePlan, modifiedPlan, planBy, planOf, periodsTaken, sizesOf, rowsOf, excitationOf, partsOf, periodsOf}
 use Rattle.diphone.specs.Buffers.{Buffers, filled, checkRefusal, callRefusal, summaryOf}
+use Rattle.diphone.specs.Machine.{bytesOfPeriods}
 use Rattle.diphone.proofs.CallLaws.{twoSegments, rows-length}
 
 -- ---- the marks
@@ -93,10 +94,10 @@ module _ (v : Voice) (s : Sheet) (o : Settings) where
 
 -- ---- the samples of a call, from the bytes that its pulls write
 
-pub samples-low : (v : Voice) (s : Sheet) (o : Settings) → Below 65536 (samplesOfCall v s o)
-unfolding samplesOfCall periodsOf
-samples-low v s o =
-    below-flat 65536 (omega arith) (λ (p : List ℕ). p) (periodsOf v s o) (filter.by-low (o .filter) (v .header .«coeff_min») (v .header .«coeff_range») (partsOf v (periodsTaken v s o)))
+pub periods-low : (v : Voice) (s : Sheet) (o : Settings) → Each (Below 65536) (periodsOf v s o)
+unfolding periodsOf
+periods-low v s o = filter.by-low (o .filter) (v .header .«coeff_min») (v .header .«coeff_range») (partsOf v (periodsTaken v s o))
 
-pub samples-back : (v : Voice) (s : Sheet) (o : Settings) → elements 2 (flat (bytesOf 2) (samplesOfCall v s o)) ≡ samplesOfCall v s o
-samples-back v s o = elements-flat 2 (samplesOfCall v s o) (omega arith) (samples-low v s o)
+-- so the bytes of periods say their samples
+pub periods-back : (ps : List (List ℕ)) → Each (Below 65536) ps → elements 2 (bytesOfPeriods ps) ≡ flat (λ (p : List ℕ). p) ps
+periods-back ps e = elements-flat 2 (flat (λ (p : List ℕ). p) ps) (omega arith) (below-flat 65536 (omega arith) (λ (p : List ℕ). p) ps e)

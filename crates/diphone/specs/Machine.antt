@@ -5,7 +5,7 @@ use lib.Dec.{eqb, ltb}
 use lib.ListN.{length, getD, take}
 use Rattle.base.specs.Choice.{pick}
 use Rattle.base.specs.Buffers.{over, flat}
-use Rattle.base.specs.Bytes.{bytesOf}
+use Rattle.base.specs.Bytes.{bytesOf, elements}
 use Rattle.refusal.specs.declared.Refusal.the-variants.{ShortSlice}
 use Rattle.lpc.specs.declared.FilterState.{FilterState}
 use Rattle.diphone.specs.declared.Answer.{Answer}
@@ -55,6 +55,10 @@ gaveBytes (Refused r) d = []
 -- 'what they wrote, joined in order'
 unfoldable pub written : List Shown → List ℕ
 written os = flat (λ (o : Shown). gaveBytes (o .answer) (o .slice)) os
+
+-- the samples that these bytes say
+abbrev pub samplesWritten : List Shown → List ℕ
+samplesWritten os = elements 2 (written os)
 
 -- the samples of periods, joined, as bytes
 abbrev pub bytesOfPeriods : List (List ℕ) → List ℕ

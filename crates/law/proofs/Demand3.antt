@@ -8,14 +8,14 @@ use native.Mathlib.Omega.{arith}
 use lib.ListN.{length, getD, take}
 use Rattle.base.specs.Lists.{Heads}
 use Rattle.base.specs.Buffers.{flat}
-use Rattle.base.specs.Bytes.{bytesOf}
+use Rattle.base.specs.Bytes.{elements}
 use Rattle.base.proofs.ListLaws.{next-none, heads-by}
 use Rattle.base.proofs.BufferLaws.{flat-append}
+use Rattle.base.proofs.BoundLaws.{Below, each-take}
 use Rattle.refusal.specs.declared.Refusal.{Refusal}
 use Rattle.refusal.specs.declared.Refusal.the-variants.{ShortSlice}
-use Rattle.voice.specs.Opening.{openingRefusal}
 use Rattle.voice.proofs.OpeningLaws.{Opens, opens}
-use Rattle.sheet.specs.Sheet.{Sheet, sheetRefusal}
+use Rattle.sheet.specs.Sheet.{Sheet}
 use Rattle.sheet.proofs.SheetLaws.{sheet-refers}
 use Rattle.excitation.proofs.SizedLaws.{taken-sized}
 use Rattle.lpc.specs.declared.FilterState.{FilterState}
@@ -23,10 +23,11 @@ use Rattle.diphone.specs.declared.Settings.{Settings}
 use Rattle.diphone.specs.Call.{planOf, periodsTaken, sizesOf, rowsOf, periodsOf, samplesOfCall}
 use Rattle.diphone.specs.Buffers.{callRefusal, checkRefusal, plannedOf, freshOf}
 use Rattle.diphone.specs.declared.Answer.the-variants.{Done, Refused}
-use Rattle.diphone.specs.Machine.{Shown, pulls, shows, machine, written, bytesOfPeriods, given, SaysDone}
+use Rattle.diphone.specs.Machine.{Shown, pulls, shows, machine, written, samplesWritten, bytesOfPeriods, given, SaysDone}
 use Rattle.diphone.proofs.PullLaws.{shows-done, fresh-machine}
 use Rattle.diphone.proofs.MachineLaws.{machine-writes, machine-at, machine-within, before-within, shows-done-all, shows-refused, machine-done-all}
 use Rattle.diphone.proofs.CallLaws.{periods-ahead, periods-equal, rows-length}
+use Rattle.diphone.proofs.FilledLaws.{call-planned, periods-low, periods-back}
 use Rattle.law.proofs.LentLaws.{lentTaken, lent-filled}
 use Rattle.law.specs.SpokenCall.{SpokenCall, voiceIn, sheetIn, periodsIn, samplesIn, pullsAfter, Longer, BeginsWith}
 use Rattle.law.specs.Demand3.{Demand3, answerAt, givenBefore}
@@ -34,17 +35,12 @@ use Rattle.law.specs.Demand3.{Demand3, answerAt, givenBefore}
 -- ---- what a spoken call shows
 
 module _ (c : SpokenCall) where
-  checked : checkRefusal (c .voiceFile) (c .sheetFile) (c .settings) ≡ none
-  unfolding callRefusal
-  checked = next-none _ _ (c .notRefused) .0
-
   opened : Opens (voiceIn c)
-  unfolding checkRefusal
-  opened = opens (c .voiceFile) (next-none _ _ checked .0)
+  unfolding callRefusal checkRefusal
+  opened = opens (c .voiceFile) (next-none _ _ (next-none _ _ (c .notRefused) .0) .0)
 
   planned : planOf (voiceIn c) (sheetIn c) (c .settings) .refusal ≡ none
-  unfolding checkRefusal
-  planned = next-none (sheetRefusal (c .sheetFile)) _ (next-none (openingRefusal (c .voiceFile)) _ checked .1) .1
+  planned = call-planned (c .voiceFile) (c .sheetFile) (c .settings) (c .lent) (c .notRefused)
 
   fresh : plannedOf (c .voiceFile) (c .sheetFile) (c .settings) (c .lent) .state ≡ freshOf (voiceIn c) (c .settings)
   unfolding plannedOf
@@ -78,10 +74,18 @@ whole-lists c ds =
 pub whole-lists-written : (c : SpokenCall) (ds : List (List ℕ)) → written (pullsAfter c ds) ≡ bytesOfPeriods (take (given (pullsAfter c ds)) (periodsIn c))
 whole-lists-written c ds = let e = whole-lists c ds in rw e (machine-writes (periodsIn c) ds)
 
+pub whole-lists-samples : (c : SpokenCall) (ds : List (List ℕ))
+    → samplesWritten (pullsAfter c ds) ≡ flat (λ (p : List ℕ). p) (take (given (pullsAfter c ds)) (periodsIn c))
+whole-lists-samples c ds =
+    let n = given (pullsAfter c ds) in
+    ap (elements 2) (whole-lists-written c ds) ∙ periods-back (take n (periodsIn c)) (each-take (Below 65536) n (periodsIn c) (periods-low (voiceIn c) (sheetIn c) (c .settings)))
+
 -- once a pull says done, all samples of the call were written
-pub whole-lists-done : (c : SpokenCall) (ds : List (List ℕ)) → SaysDone (pullsAfter c ds) → written (pullsAfter c ds) ≡ flat (bytesOf 2) (samplesIn c)
+pub whole-lists-done : (c : SpokenCall) (ds : List (List ℕ)) → SaysDone (pullsAfter c ds) → samplesWritten (pullsAfter c ds) ≡ samplesIn c
 unfolding samplesOfCall
-whole-lists-done c ds s = let e = whole-lists c ds in rw e (machine-done-all (periodsIn c) ds (rw e at s))
+whole-lists-done c ds s =
+    let e = whole-lists c ds in
+    ap (elements 2) (rw e (machine-done-all (periodsIn c) ds (rw e at s))) ∙ periods-back (periodsIn c) (periods-low (voiceIn c) (sheetIn c) (c .settings))
 
 -- ---- a longer sheet on an extended voice
 
@@ -131,15 +135,12 @@ module _ (c : SpokenCall) (ds : List (List ℕ)) (i : ℕ) (h : i < length ds) w
   pull-refused r e = shows-refused (periodsIn c) (givenBefore c ds i) (getD ds i []) r low (sym at-pull ∙ e)
 
 begun : (c d : SpokenCall) → Longer d c → (ds es : List (List ℕ)) → SaysDone (pullsAfter c ds) → SaysDone (pullsAfter d es)
-    → BeginsWith d c (written (pullsAfter d es)) (written (pullsAfter c ds))
+    → BeginsWith d c (samplesWritten (pullsAfter d es)) (samplesWritten (pullsAfter c ds))
 begun c d l ds es s t =
     let x = extension-samples c d l in
     let a = whole-lists-done c ds s in
     let b = whole-lists-done d es t in
-    record {
-      heads = rw (a, b) (flat-heads (bytesOf 2) (x .heads));
-      equal = λ e. b ∙ ap (flat (bytesOf 2)) (x .equal e) ∙ sym a;
-    }
+    record { heads = rw (a, b) (x .heads); equal = λ e. b ∙ x .equal e ∙ sym a }
 
 pub demand3 : Demand3
 demand3 =
@@ -147,7 +148,8 @@ demand3 =
       wholeLists = λ c ds.
           record {
             machines = whole-lists c ds;
-            wrote = whole-lists-written c ds;
+            wrote = whole-lists-samples c ds;
+            bytes = whole-lists-written c ds;
             within =
                 subst (λ (os : List Shown). given os ≤ length (periodsIn c)) (sym (whole-lists c ds))
                 (let w = machine-within (periodsIn c) ds 0 (omega arith) in omega arith);
