@@ -13,7 +13,8 @@ use Rattle.refusal.specs.declared.Refusal.{Refusal}
 use Rattle.refusal.specs.declared.Refusal.the-variants.{PastLimit, BadSlope, TooManyMarks}
 use Rattle.sheet.specs.declared.Target.{Target}
 use Rattle.sheet.specs.Sheet.{isFinite, asF32}
-use Rattle.marks.specs.PitchMarks.{Contour, Climb, Stage, Made, limit, mostMarks, goesOn, nextTime, markAt, ends, withMark, climb, slopeOf, contourTo, climbTo, stageAfter, thenMarks, marksFrom, firstStage, pitchMarks}
+use Rattle.units.specs.Units.{limit}
+use Rattle.marks.specs.PitchMarks.{Contour, Climb, Stage, Made, mostMarks, goesOn, nextTime, markAt, ends, withMark, climb, slopeOf, contourTo, climbTo, stageAfter, thenMarks, marksFrom, firstStage, pitchMarks}
 
 abbrev Counted : ℕ → Climb → Type 0
 Counted n c = length (c .marks) + c .left ≡ n

@@ -15,7 +15,8 @@ use Rattle.refusal.specs.declared.Refusal.{Refusal}
 use Rattle.refusal.specs.declared.Refusal.the-variants.{PastLimit}
 use Rattle.sheet.specs.declared.Target.{Target}
 use Rattle.sheet.specs.Sheet.{isFinite, asF32}
-use Rattle.marks.specs.PitchMarks.{limit, Contour, goesOn, nextTime, markAt, Climb, climb, Stage, slopeOf, contourTo, climbTo, stageAfter, Made, thenMarks, marksFrom, pitchMarks, firstStage}
+use Rattle.units.specs.Units.{limit}
+use Rattle.marks.specs.PitchMarks.{Contour, goesOn, nextTime, markAt, Climb, climb, Stage, slopeOf, contourTo, climbTo, stageAfter, Made, thenMarks, marksFrom, pitchMarks, firstStage}
 use Rattle.marks.specs.NaturalMarks.{markRefusal}
 
 abbrev pub Low : ℕ → Type 0

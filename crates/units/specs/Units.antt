@@ -44,7 +44,11 @@ unitsAll v ss (s ∷ rs) = unitsFrom v ss s rs
 abbrev pub unitsOf : Voice → List SegmentRead → List Unit
 unitsOf v ss = unitsAll v ss ss
 
--- 11 at the first target end above 16,777,215, in unit order
+-- the greatest mark or target end that a call has
+abbrev pub limit : ℕ
+limit = 16777215
+
+-- 11 at the first target end above the limit, in unit order
 unfoldable pub endRefusal : List Unit → Option Refusal
 endRefusal [] = none
-endRefusal (u ∷ us) = pick (leb (u .«target_end») 16777215) (endRefusal us) (some PastLimit)
+endRefusal (u ∷ us) = pick (leb (u .«target_end») limit) (endRefusal us) (some PastLimit)
