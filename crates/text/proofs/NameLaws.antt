@@ -1,6 +1,6 @@
 -- `same` says that two names are equal; two names compared byte by byte.
 use mathlib.Core.Path.{_≡_, refl}
-use mathlib.Core.Bool.{Bool, true, false}
+use mathlib.Core.Bool.{Bool, true, false, _&&_}
 use mathlib.Core.List.{List, [], _∷_}
 use Prim.Native.Nat.{ℕ, _+_, _≤_, _<_}
 use native.Mathlib.Omega.{arith}
@@ -29,6 +29,18 @@ pub same-refl : (a : List ℕ) → same a a ≡ true
 unfolding same
 same-refl [] = refl
 same-refl (a ∷ as′) = rw (eq-eqb a a refl) (same-refl as′)
+
+-- a shorter name is another
+pub same-short : (a b : List ℕ) → length a < length b → same a b ≡ false
+unfolding same
+same-short [] [] h = absurd (omega arith)
+same-short [] (b ∷ bs) h = refl
+same-short (a ∷ as′) [] h = refl
+same-short (a ∷ as′) (b ∷ bs) h = rw (same-short as′ bs (omega arith)) (go (eqb a b))
+  where
+    go : (t : Bool) → (t && false) ≡ false
+    go true = refl
+    go false = refl
 
 -- the order says whether they are the same
 abbrev pub isSame : Order → Bool
