@@ -28,9 +28,9 @@ unfoldable pub samplesOf : Voice → ℕ → ℕ
 samplesOf v p = sizedBy (v .sizes) p (gap v p)
 
 -- the samples of n periods from p on
-unfoldable pub samplesIn : Voice → ℕ → ℕ → ℕ
-samplesIn v p zero = 0
-samplesIn v p (suc n) = samplesOf v p + samplesIn v (suc p) n
+unfoldable pub samplesFrom : Voice → ℕ → ℕ → ℕ
+samplesFrom v p zero = 0
+samplesFrom v p (suc n) = samplesOf v p + samplesFrom v (suc p) n
 
 -- 'a row of order u16 values q per frame, rows in frame order'
 unfoldable pub rowOf : Voice → ℕ → List ℕ
