@@ -124,7 +124,7 @@ pub fn zeros_of(dq: u16, dqs: [u16; 6], b: [u16; 6]) -> [u16; 6]
 
 // ---- the poles' coefficients
 
-// UPA2: 4 times the first coefficient, limited to 17 bits.
+// UPA2: 4 times the first coefficient, which is limited to 8191 on either side.
 fn fa1(a1: u16) -> u32
     ensures { λ r. ⌜ (r ≡ block.fa1 a1) × (r < 131072) ⌝ }
 {

@@ -18,7 +18,7 @@ use Rattle.container.specs.Sections.{magic, hasMagic, isWhole, sectionsFrom, se
 use Rattle.voice.specs.Header.{headerOf, inScale, goodHeader}
 use Rattle.voice.specs.Voice.{entryAt, wholeEntry, entriesFrom, voiceAt, placesOf, voiceOf, lookup, insert, sort, sorted, sortedIndex}
 use Rattle.voice.specs.Periods.{offset, residualOf, samplesOf, samplesIn, rowOf, longest}
-use Rattle.voice.specs.Opening.{hasNeeded, rising, goodTables, withinFrames, distinct, goodIndex, openingRefusal}
+use Rattle.voice.specs.Opening.{indexFits, hasNeeded, rising, goodTables, withinFrames, distinct, goodIndex, openingRefusal}
 use Rattle.sheet.specs.Sheet.{_andThen_, groups, count, printable, name, isFinite, finite, valueOf, value, asF32, segment, target, repeated, sheetFrom, sheetRefusal, sheetOf}
 use Rattle.phoneset.specs.Phones.{vowels, consonants, vc, isVowel}
 use Rattle.units.specs.Selecting.{foldName, folded, nameOf, inCluster, firstTried, entryOf}
@@ -32,8 +32,8 @@ use Rattle.lpc.specs.Filter.{cut, outputs, samples, periodsFrom}
 use Rattle.lpc.specs.Fixed.{scaledBy, rowValue, fixedSum, divided, fixedNext, fixedFilter}
 use Rattle.lpc.specs.State.{freshState, periodsBy}
 use Rattle.diphone.specs.Call.{simplePlan, planBy, planOf, periodsTaken, sizesOf, rowsOf, excitationOf, periodsOf}
-use Rattle.diphone.specs.Buffers.{decodeRoom, fits, checkRefusal, callRefusal, summaryOf, plannedOf}
-use Rattle.law.specs.ProvedExamples.{Table, Printed, Edges, exampleVoice, segmentsOf}
+use Rattle.diphone.specs.Buffers.{decodedOver, filled, decodeRoom, fits, checkRefusal, callRefusal, summaryOf, plannedOf}
+use Rattle.law.specs.ProvedExamples.{Table, Printed, Edges, PorterErrors, exampleVoice, segmentsOf}
 
 -- the twelve rows
 pub table : Table
@@ -56,10 +56,15 @@ table =
 
 -- the printed example
 pub printed : Printed
-unfolding exampleVoice over flat upto littleEndian bytesOf every firstFailing low narrow same before among lead step waits complete utf8 spaceAt trimStartBy trimStart trimEnd trim magic hasMagic isWhole sectionsFrom sections find saysDiphone isDiphone headerOf inScale goodHeader entryAt wholeEntry entriesFrom voiceAt placesOf voiceOf lookup insert sort sorted sortedIndex offset residualOf samplesOf samplesIn rowOf longest hasNeeded rising goodTables withinFrames distinct goodIndex openingRefusal _andThen_ groups count printable name isFinite finite valueOf value asF32 segment target repeated sheetFrom sheetRefusal sheetOf vowels consonants vc isVowel foldName folded nameOf inCluster firstTried entryOf samplesAt midway unitsOfPair unitsFrom unitsAll endRefusal f0At goesOn nextTime markAt climb slopeOf climbTo marksFrom pitchMarks marksOfPeriods naturalMarks naturalUnits markRefusal decodedBy sourceBy sourceOf centred nearestFrom nearestPeriod paceOf placeAfterSize periodOf takeUnit takenFrom taken cut outputs samples periodsFrom scaledBy rowValue fixedSum divided fixedNext fixedFilter freshState periodsBy simplePlan planBy planOf periodsTaken sizesOf rowsOf excitationOf periodsOf decodeRoom fits checkRefusal callRefusal summaryOf plannedOf sampleOf quantisedValue add sub mul div lt le ne ofBits ofInt toUnsigned toSigned
-printed = record { summary = refl; periods = refl }
+unfolding exampleVoice over flat upto littleEndian bytesOf every firstFailing low narrow same before among lead step waits complete utf8 spaceAt trimStartBy trimStart trimEnd trim magic hasMagic isWhole sectionsFrom sections find saysDiphone isDiphone headerOf inScale goodHeader entryAt wholeEntry entriesFrom voiceAt placesOf voiceOf lookup insert sort sorted sortedIndex offset residualOf samplesOf samplesIn rowOf longest hasNeeded rising goodTables withinFrames distinct goodIndex openingRefusal _andThen_ groups count printable name isFinite finite valueOf value asF32 segment target repeated sheetFrom sheetRefusal sheetOf vowels consonants vc isVowel foldName folded nameOf inCluster firstTried entryOf samplesAt midway unitsOfPair unitsFrom unitsAll endRefusal f0At goesOn nextTime markAt climb slopeOf climbTo marksFrom pitchMarks marksOfPeriods naturalMarks naturalUnits markRefusal decodedBy sourceBy sourceOf centred nearestFrom nearestPeriod paceOf placeAfterSize periodOf takeUnit takenFrom taken cut outputs samples periodsFrom scaledBy rowValue fixedSum divided fixedNext fixedFilter freshState periodsBy simplePlan planBy planOf periodsTaken sizesOf rowsOf excitationOf periodsOf decodedOver filled decodeRoom indexFits fits checkRefusal callRefusal summaryOf plannedOf sampleOf quantisedValue add sub mul div lt le ne ofBits ofInt toUnsigned toSigned
+printed = record { summary = refl; periods = refl; buffers = refl }
 
 -- the edges
 pub edges : Edges
 unfolding exampleVoice segmentsOf over flat upto littleEndian bytesOf every firstFailing low narrow same before among lead step waits complete utf8 spaceAt trimStartBy trimStart trimEnd trim magic hasMagic isWhole sectionsFrom sections find saysDiphone isDiphone headerOf inScale goodHeader entryAt wholeEntry entriesFrom voiceAt placesOf voiceOf lookup insert sort sorted sortedIndex offset residualOf samplesOf samplesIn rowOf longest hasNeeded rising goodTables withinFrames distinct goodIndex openingRefusal _andThen_ groups count printable name isFinite finite valueOf value asF32 segment target repeated sheetFrom sheetRefusal sheetOf markRefusal le ofBits
 edges = record { orders = (refl, refl); segments = (refl, refl); marks = (refl, refl) }
+
+-- the errors
+pub porterErrors : PorterErrors
+unfolding low divided scaledBy rowValue fixedSum fixedNext fixedFilter outputs samples periodsFrom ugb upb decisionValue quantisedValue lastInterval ulawOf sampleOf mul ofInt toSigned
+porterErrors = record { towardsZero = refl; keeps = refl; sends = refl; wraps = refl; notIdentity = refl; crosses = refl }

@@ -9,9 +9,10 @@ use lib.ListN.{length, replicate}
 use lib.Ieee.{Float, fin}
 use Rattle.base.specs.Text.{ascii}
 use Rattle.base.specs.Bytes.{bytesOf}
-use Rattle.base.specs.Words.{signed16}
+use Rattle.base.specs.Words.{low, signed16}
 use Rattle.refusal.specs.declared.Refusal.the-variants.{BadHeader, BadSheet, TooManyMarks}
 use Rattle.ulaw.specs.Ulaw.{sampleOf, ulawOf}
+use Rattle.adpcm_predict.specs.Predictor.{upb}
 use Rattle.adpcm.specs.Decoder.{fresh, signalsOf, sampleIn}
 use Rattle.voice.specs.Voice.{Voice, voiceOf}
 use Rattle.voice.specs.Opening.{openingRefusal}
@@ -23,12 +24,13 @@ use Rattle.marks.specs.NaturalMarks.{markRefusal}
 use Rattle.excitation.specs.Source.{centred}
 use Rattle.excitation.specs.Nearest.{nearestPeriod}
 use Rattle.lpc.specs.declared.ResynthType.the-variants.{Fixed}
-use Rattle.lpc.specs.Fixed.{scaledBy, rowValue}
+use Rattle.lpc.specs.Filter.{Filter, outputs, samples, periodsFrom}
+use Rattle.lpc.specs.Fixed.{scaledBy, rowValue, divided, fixedFilter}
 use Rattle.diphone.specs.declared.JoinType.the-variants.{Simple}
 use Rattle.diphone.specs.declared.Settings.{Settings}
 use Rattle.diphone.specs.declared.Called.the-variants.{Spoken}
 use Rattle.diphone.specs.Call.{periodsOf}
-use Rattle.diphone.specs.Buffers.{Buffers, plannedOf}
+use Rattle.diphone.specs.Buffers.{Buffers, filled, plannedOf}
 
 -- ---- what the rows speak of
 
@@ -132,12 +134,22 @@ exampleBuffers =
       decoded = replicate 1024 0;
     }
 
--- 8000 2 5; period 1 of size 2: 8 132; period 2 of size 3: 0 -8 -132
+-- 8000 2 5; period 1 of size 2: 8 132; period 2 of size 3: 0 -8 -132; and what the call filled: the offset of the entry's name-length byte, marks,
+-- sizes, and the excitation
 pub record Printed : Type 0 where
   pub summary : plannedOf (exampleVoice 0) exampleSheet exampleSettings exampleBuffers .answer
       ≡ Spoken (record { rate = 8000; periods = 2; samples = 5; marks = 2; order = 0; entries = 1 })
   pub periods : map (map signed16) (periodsOf (voiceOf (exampleVoice 0)) (sheetOf exampleSheet) exampleSettings)
       ≡ (pos 8 ∷ pos 132 ∷ []) ∷ (pos 0 ∷ negsuc 7 ∷ negsuc 131 ∷ []) ∷ []
+  pub buffers : filled (voiceOf (exampleVoice 0)) (sheetOf exampleSheet) exampleSettings
+      ≡ record {
+        index = bytesOf 8 138;
+        marks = bytesOf 4 2 ++ bytesOf 4 5;
+        sizes = bytesOf 4 2 ++ bytesOf 4 3;
+        rows = [];
+        excitation = 0xFE ∷ 0xEF ∷ 0xFF ∷ 0x7E ∷ 0x6F ∷ [];
+        decoded = [];
+      }
 
 -- ---- the edges
 
@@ -153,3 +165,22 @@ pub record Edges : Type 0 where
   pub segments : (sheetRefusal (128 ∷ 32 ∷ segmentsOf 4096) ≡ none) × (sheetRefusal (129 ∷ 32 ∷ segmentsOf 4097) ≡ some BadSheet)
   -- 65,536 marks pass, 65,537 give 12
   pub marks : (markRefusal mostMarks (replicate 65536 7) ≡ none) × (markRefusal mostMarks (replicate 65537 7) ≡ some TooManyMarks)
+
+-- ---- 'Errors a porter would make'
+
+-- the fixed filter of min 1, range 0: every row value is 16384, so each output is the residual's sample plus the output before
+abbrev pub sumFilter : Filter ℕ
+sumFilter = fixedFilter (fin false 1 (pos 0)) zeroFloat
+
+pub record PorterErrors : Type 0 where
+  -- -1 / 16384 is 0
+  pub towardsZero : divided (low 32 (negsuc 0)) ≡ 0
+  -- history 40000 sends -25536 and keeps 40000
+  pub keeps : outputs sumFilter (0 ∷ []) (40000 ∷ []) (255 ∷ []) ≡ 40000 ∷ 40000 ∷ []
+  pub sends : map signed16 (samples sumFilter (0 ∷ []) (40000 ∷ []) (255 ∷ [])) ≡ negsuc 25535 ∷ []
+  -- a zero coefficient steps from 32767 to -32768, modulo 65,536
+  pub wraps : upb 1 0 32767 ≡ 32768
+  -- decode then encode: 127 becomes 255
+  pub notIdentity : ulawOf (sampleOf 127) ≡ 255
+  -- history crosses periods
+  pub crosses : periodsFrom sumFilter [] (record { row = 0 ∷ []; bytes = 0xEF ∷ [] } ∷ record { row = 0 ∷ []; bytes = 0xFF ∷ [] } ∷ []) ≡ (132 ∷ []) ∷ (132 ∷ []) ∷ []

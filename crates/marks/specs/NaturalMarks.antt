@@ -9,7 +9,7 @@ use Rattle.refusal.specs.declared.Refusal.the-variants.{PastLimit, TooManyMarks
 use Rattle.voice.specs.Voice.{Voice}
 use Rattle.voice.specs.Periods.{samplesOf, samplesIn}
 use Rattle.units.specs.declared.Unit.{Unit}
-use Rattle.marks.specs.PitchMarks.{limit}
+use Rattle.units.specs.Units.{limit}
 
 -- a unit's number of periods
 abbrev pub periodsIn : Unit → ℕ

@@ -12,7 +12,7 @@ use Rattle.voice.specs.Voice.{Voice}
 unfoldable pub offset : Voice → ℕ → ℕ
 offset v i = u32At (v .offsets) i
 
--- the bytes of period p, and how many they are
+-- how many bytes period p has, and the bytes
 abbrev pub gap : Voice → ℕ → ℕ
 gap v p = offset v (suc p) - offset v p
 
