@@ -2,7 +2,7 @@
 // `next_of` ensure of the delays, and that a code has four bits.
 ghost use mathlib.Core.Path.{_≡_};
 ghost use Prim.Native.Nat.{_*_, _<_, _≤_};
-ghost use lib.ListN.{length};
+ghost use lib.ListN.{length, getD};
 ghost use Rattle.base.specs.Buffers.{over};
 ghost use Rattle.ulaw.specs.Ulaw.{ulawOf};
 ghost use Rattle.adpcm.specs.Decoder as decoder;
@@ -178,21 +178,27 @@ fn byte_of(g: Signals) -> u8
     ulaw::i16_to_ulaw(sample_in(g))
 }
 
-// Decodes packed codes, the high half of a byte first, from a fresh state to mu-law bytes at the
-// front of `out`. The caller has tested that they fit.
+// The code at place k of packed bytes, two a byte: the high half first.
+fn code_at(packed: &[u8], k: usize) -> usize
+    requires { ⌜ k < 2 * length (now packed) ⌝ }
+    ensures { λ r. ⌜ (r ≡ getD (decoder.codesOf (now (packed .entry))) k 0) × (r < 16) ⌝ }
+{
+    let pair = packed[k / 2] as usize;
+    if k % 2 == 0 { pair / 16 } else { pair % 16 }
+}
+
+// Decodes packed codes from a fresh state to mu-law bytes at the front of `out`. The caller has
+// tested that they fit.
 pub fn decode_adpcm(packed: &[u8], out: &mut [u8])
     requires { ⌜ 2 * length (now packed) ≤ length (now out) ⌝ }
     ensures { λ _. ⌜ now (out .exit) ≡ over (decoder.decoded (now (packed .entry))) (now (out .entry)) ⌝ }
 {
     let mut state = AdpcmState::fresh();
-    let mut i = 0;
-    while i < packed.len() {
-        let pair = packed[i] as usize;
-        let high = state.coded_of(pair / 16);
-        let low = high.state.coded_of(pair % 16);
-        out[2 * i] = high.byte;
-        out[2 * i + 1] = low.byte;
-        state = low.state;
-        i += 1;
+    let mut k = 0;
+    while k < 2 * packed.len() {
+        let coded = state.coded_of(code_at(packed, k));
+        out[k] = coded.byte;
+        state = coded.state;
+        k += 1;
     }
 }

@@ -2,14 +2,24 @@
 // caller's own bounds give.
 ghost use mathlib.Core.Path.{_≡_};
 ghost use Prim.Native.Nat.{_+_, _*_, _<_, _≤_};
+ghost use lib.Dec.{eqb};
+ghost use Rattle.base.specs.Choice.{pick};
 ghost use Rattle.adpcm_float.specs.Floating as block;
 
-// EXP of a magnitude: how many bits it has.
+// EXP of a magnitude: how many bits it has. Twice it and 1 has one more, and is never 0.
 fn exponent(mag: u32) -> u32
     requires { ⌜ mag < 32768 ⌝ }
     ensures { λ r. ⌜ (r ≡ block.exponent 15 mag) × (r ≤ 15) ⌝ }
 {
-    32 - u32::leading_zeros(mag)
+    31 - u32::leading_zeros(2 * mag + 1)
+}
+
+// MANT before its shift: 32 for 0.
+fn widened(mag: u32) -> u32
+    requires { ⌜ mag < 32768 ⌝ }
+    ensures { λ r. ⌜ r ≡ pick (eqb mag 0) 32 (mag * 64) ⌝ }
+{
+    if mag == 0 { 32 } else { mag * 64 }
 }
 
 // MANT of a magnitude: its six highest bits.
@@ -17,11 +27,7 @@ fn mantissa(mag: u32) -> u32
     requires { ⌜ mag < 32768 ⌝ }
     ensures { λ r. ⌜ (r ≡ block.mantissa mag) × (r < 64) ⌝ }
 {
-    if mag == 0 {
-        32
-    } else {
-        (mag * 64) >> exponent(mag)
-    }
+    widened(mag) >> exponent(mag)
 }
 
 // A sign bit and a magnitude in floating format.
@@ -72,17 +78,14 @@ fn an_mag(an: u16) -> u32
     }
 }
 
-// FMULT: the magnitude of the product, in 15 bits.
+// FMULT: the magnitude of the product, in 15 bits. A shift up and one down, so that none depends
+// on a test.
 fn wan_mag(mant: u32, exp: u32) -> u32
     requires { ⌜ (mant < 256) × (exp < 32) ⌝ }
     ensures { λ r. ⌜ (r ≡ block.wanMag mant exp) × (r < 32768) ⌝ }
 {
-    let wide = mant * 128;
-    if exp <= 26 {
-        wide >> (26 - exp)
-    } else {
-        (wide << (exp - 26)) % 32768
-    }
+    let wide = (mant * 128) as u64;
+    (((wide << exp) >> 26) % 32768) as u32
 }
 
 // A magnitude with a sign bit, in two's complement.
