@@ -38,11 +38,14 @@ pub fn run(args: &Args) -> bool {
         "  decode_adpcm: {} codes in {case} periods and 16 held ones, {} mismatches",
         tally.codes, tally.wrong
     );
-    println!(
-        "  decode_adpcm: {:.1} ns a code in the Rust, {:.1} ns in the archive",
-        each(tally.rust, tally.codes),
-        each(tally.archive, tally.codes)
-    );
+    for time in &tally.times {
+        println!(
+            "  decode_adpcm: {} codes: {:.1} ns a code in the Rust, {:.1} ns in the archive",
+            time.kind,
+            each(time.rust, time.codes),
+            each(time.archive, time.codes)
+        );
+    }
     agreed &= tally.wrong == 0;
     let end = if agreed { "all equal" } else { "mismatches" };
     println!("oracle codecs: {end}");
@@ -98,22 +101,47 @@ fn period(rng: &mut Rng) -> (&'static str, Vec<u8>) {
 struct Tally {
     codes: u64,
     wrong: u64,
+    times: Vec<Time>,
+}
+
+/// What one kind of codes took.
+struct Time {
+    kind: &'static str,
+    codes: u64,
     rust: Duration,
     archive: Duration,
 }
 
 impl Tally {
+    fn time(&mut self, kind: &'static str) -> &mut Time {
+        let known = self.times.iter().position(|time| time.kind == kind);
+        let at = known.unwrap_or(self.times.len());
+        if known.is_none() {
+            self.times.push(Time {
+                kind,
+                codes: 0,
+                rust: Duration::ZERO,
+                archive: Duration::ZERO,
+            });
+        }
+        &mut self.times[at]
+    }
+
     /// Decodes one period both ways. The archive's output stands in a buffer
     /// with room to spare, which it must leave as it was.
-    fn compare(&mut self, kind: &str, packed: &[u8]) {
+    fn compare(&mut self, kind: &'static str, packed: &[u8]) {
         let start = Instant::now();
         let rust = decode_adpcm(packed);
-        self.rust += start.elapsed();
+        let rust_time = start.elapsed();
         let mut out = vec![0xA5; 2 * packed.len() + 3];
         let start = Instant::now();
         probe::decode_adpcm(packed, &mut out);
-        self.archive += start.elapsed();
+        let archive_time = start.elapsed();
         self.codes += 2 * packed.len() as u64;
+        let time = self.time(kind);
+        time.codes += 2 * packed.len() as u64;
+        time.rust += rust_time;
+        time.archive += archive_time;
         let (front, rest) = out.split_at(2 * packed.len());
         let first = rust.iter().zip(front).position(|(a, b)| a != b);
         if first.is_some() || rest != [0xA5; 3] || rust.len() != front.len() {
