@@ -3,22 +3,29 @@
 pub struct Args {
     pub seed: u64,
     pub count: Option<u64>,
+    /// The number of the first case.
+    pub from: u64,
     pub all: bool,
+    pub out: Option<String>,
 }
 
-/// Reads `--seed N`, `--count N` and `--all`.
+/// Reads `--seed N`, `--count N`, `--from N`, `--all` and `--out FILE`.
 pub fn read(words: &[String]) -> Result<Args, String> {
     let mut args = Args {
         seed: 1,
         count: None,
+        from: 0,
         all: false,
+        out: None,
     };
     let mut rest = words.iter();
     while let Some(word) = rest.next() {
         match word.as_str() {
             "--seed" => args.seed = number(word, rest.next())?,
             "--count" => args.count = Some(number(word, rest.next())?),
+            "--from" => args.from = number(word, rest.next())?,
             "--all" => args.all = true,
+            "--out" => args.out = Some(file(rest.next())?),
             other => return Err(format!("unknown option {other}")),
         }
     }
@@ -29,4 +36,9 @@ fn number(option: &str, word: Option<&String>) -> Result<u64, String> {
     let word = word.ok_or_else(|| format!("{option} needs a number"))?;
     word.parse()
         .map_err(|_| format!("{option} needs a number, not {word}"))
+}
+
+fn file(word: Option<&String>) -> Result<String, String> {
+    let word = word.ok_or("--out needs a file")?;
+    Ok(word.clone())
 }

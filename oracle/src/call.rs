@@ -126,17 +126,29 @@ pub fn units(voice: &Voice, sheet: &Sheet, fold: bool) -> Vec<Unit> {
 
 /// The marks that a call makes, or its refusal with 10 to 12.
 pub fn marks(voice: &Voice, sheet: &Sheet, settings: Settings) -> Result<Vec<usize>, Refusal> {
+    let mut marks = Vec::new();
+    make_marks(voice, sheet, settings, &mut marks)?;
+    Ok(marks)
+}
+
+/// Makes the marks of a call. What was made before a refusal stays in `marks`.
+pub fn make_marks(
+    voice: &Voice,
+    sheet: &Sheet,
+    settings: Settings,
+    marks: &mut Vec<usize>,
+) -> Result<(), Refusal> {
     if settings.join == Join::None || sheet.segments.len() < 2 {
-        return Ok(Vec::new());
+        return Ok(());
     }
     let units = units(voice, sheet, settings.fold);
     if settings.join == Join::Simple {
-        return simple_marks(voice, &units);
+        return simple_marks(voice, &units, marks);
     }
     if units.iter().any(|unit| unit.target_end > MAX_PLACE) {
         return Err(Refusal::TooFar);
     }
-    modified_marks(voice.header.rate, &sheet.contour())
+    modified_marks(voice.header.rate, &sheet.contour(), marks)
 }
 
 /// Adds a mark: first the count is looked at, then the mark.
@@ -151,32 +163,34 @@ fn add_mark(marks: &mut Vec<usize>, mark: usize) -> Result<(), Refusal> {
     Ok(())
 }
 
-fn simple_marks(voice: &Voice, units: &[Unit]) -> Result<Vec<usize>, Refusal> {
-    let mut marks = Vec::new();
+fn simple_marks(voice: &Voice, units: &[Unit], marks: &mut Vec<usize>) -> Result<(), Refusal> {
     let mut mark = 0;
     for unit in units {
         for period in unit.first..unit.last {
             mark += voice.samples(period);
-            add_mark(&mut marks, mark)?;
+            add_mark(marks, mark)?;
         }
     }
-    Ok(marks)
+    Ok(())
 }
 
-fn modified_marks(rate: u32, contour: &[(f32, f32)]) -> Result<Vec<usize>, Refusal> {
-    let mut marks = Vec::new();
+fn modified_marks(
+    rate: u32,
+    contour: &[(f32, f32)],
+    marks: &mut Vec<usize>,
+) -> Result<(), Refusal> {
     let refusal = walk(contour, |step| {
         let answer = match step {
             Step::Slope(slope) if !slope.is_finite() => Err(Refusal::Slope),
             Step::Slope(_) => Ok(()),
-            Step::Mark { after, .. } => add_mark(&mut marks, (f64::from(rate) * after) as usize),
+            Step::Mark { after, .. } => add_mark(marks, (f64::from(rate) * after) as usize),
         };
         match answer {
             Ok(()) => ControlFlow::Continue(()),
             Err(refusal) => ControlFlow::Break(refusal),
         }
     });
-    refusal.map_or(Ok(marks), Err)
+    refusal.map_or(Ok(()), Err)
 }
 
 /// One thing that happens on the way along a contour.

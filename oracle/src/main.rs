@@ -22,12 +22,14 @@ mod report;
 mod rng;
 mod selfcheck;
 mod sheet;
+mod statements;
 mod voicefile;
 
 use std::process::ExitCode;
 
 const USAGE: &str = "usage:
   oracle self [--seed N] [--count N]
+  oracle statements [--seed N] [--from N] [--count N] --out FILE
   oracle floats [--seed N] [--count N] [--all]";
 
 fn main() -> ExitCode {
@@ -41,6 +43,7 @@ fn main() -> ExitCode {
     };
     let agreed = match command.as_str() {
         "self" => selfcheck::run(&args),
+        "statements" => statements::run(&args),
         #[cfg(feature = "probe")]
         "floats" => floats::run(&args),
         #[cfg(not(feature = "probe"))]

@@ -187,6 +187,10 @@ impl<'a> Voice<'a> {
         self.header.codec == 1
     }
 
+    pub fn has_sizes(&self) -> bool {
+        self.sizes.is_some()
+    }
+
     fn offset(&self, i: usize) -> usize {
         u32_at(self.offsets, i) as usize
     }

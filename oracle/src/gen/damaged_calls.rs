@@ -324,7 +324,7 @@ impl Cases {
     }
 }
 
-fn entry(name: &str, start: u16, halves: [u8; 2]) -> EntrySpec {
+pub fn entry(name: &str, start: u16, halves: [u8; 2]) -> EntrySpec {
     EntrySpec {
         name: name.as_bytes().to_vec(),
         start,

@@ -5,6 +5,7 @@ pub mod damaged_calls;
 pub mod damaged_sheets;
 pub mod damaged_voices;
 pub mod sheets;
+pub mod small;
 pub mod text;
 pub mod voices;
 

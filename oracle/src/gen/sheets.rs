@@ -95,7 +95,7 @@ fn add_segments(rng: &mut Rng, sheet: &mut Sheet, words: &Vocabulary, seconds: f
     set_followers(rng, &mut sheet.segments);
 }
 
-fn set_followers(rng: &mut Rng, segments: &mut [Segment]) {
+pub(super) fn set_followers(rng: &mut Rng, segments: &mut [Segment]) {
     let count = segments.len();
     for (i, segment) in segments.iter_mut().enumerate() {
         segment.follower = match rng.below(6) {
@@ -109,7 +109,7 @@ fn set_followers(rng: &mut Rng, segments: &mut [Segment]) {
 
 /// Mostly the time as a float, now and then something that is rounded, absent
 /// or earlier.
-fn time_value(rng: &mut Rng, time: f64) -> Value {
+pub(super) fn time_value(rng: &mut Rng, time: f64) -> Value {
     match rng.below(24) {
         0 => Value::Absent,
         1 => Value::Whole(time as i32),
@@ -139,7 +139,7 @@ fn add_targets(rng: &mut Rng, sheet: &mut Sheet, rate: u32, from: f64, seconds: 
     }
 }
 
-fn pitch_value(rng: &mut Rng, f0: f64) -> Value {
+pub(super) fn pitch_value(rng: &mut Rng, f0: f64) -> Value {
     match rng.below(24) {
         0 => Value::Absent,
         1 | 2 => Value::Whole(f0 as i32),
@@ -147,7 +147,7 @@ fn pitch_value(rng: &mut Rng, f0: f64) -> Value {
     }
 }
 
-fn make_times_odd(rng: &mut Rng, sheet: &mut Sheet) {
+pub(super) fn make_times_odd(rng: &mut Rng, sheet: &mut Sheet) {
     for segment in &mut sheet.segments {
         if rng.once_in(4) {
             segment.end = odd_value(rng, &ODD_TIME);
@@ -155,7 +155,7 @@ fn make_times_odd(rng: &mut Rng, sheet: &mut Sheet) {
     }
 }
 
-fn make_targets_odd(rng: &mut Rng, sheet: &mut Sheet) {
+pub(super) fn make_targets_odd(rng: &mut Rng, sheet: &mut Sheet) {
     for target in &mut sheet.targets {
         if rng.once_in(5) {
             target.pos = odd_value(rng, &ODD_TIME);

@@ -226,7 +226,7 @@ fn frame_count(rng: &mut Rng, extent: Extent) -> usize {
     }
 }
 
-fn sample_rate(rng: &mut Rng) -> u32 {
+pub(super) fn sample_rate(rng: &mut Rng) -> u32 {
     match rng.below(4) {
         0 => rng.pick(&[1, 2, 3, 100, 44_100, 47_999, 48_000]),
         1 => rng.between(1, 48_000) as u32,
@@ -236,7 +236,7 @@ fn sample_rate(rng: &mut Rng) -> u32 {
 
 /// coeff_min and coeff_range: like those of real voices, at the limits, or
 /// anything between.
-fn scales(rng: &mut Rng) -> (f32, f32) {
+pub(super) fn scales(rng: &mut Rng) -> (f32, f32) {
     let edges = [
         0.0,
         -0.0,
@@ -284,7 +284,7 @@ fn add_frames(rng: &mut Rng, spec: &mut VoiceSpec, count: usize) {
 
 /// One stored row value. In most manners the filter stays quiet enough for its
 /// samples to say something; in others it runs to its limits.
-fn row_value(rng: &mut Rng, header: &Header, manner: usize) -> u16 {
+pub(super) fn row_value(rng: &mut Rng, header: &Header, manner: usize) -> u16 {
     let min = f32::from_bits(header.coeff_min);
     let range = f32::from_bits(header.coeff_range);
     let zero = (-min / range * 65_535.0).clamp(0.0, 65_535.0);
@@ -326,7 +326,7 @@ fn size_byte(rng: &mut Rng, codec: u32, stored: usize) -> u8 {
     size.min(255) as u8
 }
 
-fn residual_byte(rng: &mut Rng, manner: usize) -> u8 {
+pub(super) fn residual_byte(rng: &mut Rng, manner: usize) -> u8 {
     match manner {
         0 | 1 => rng.byte(),
         2 => rng.pick(&[0xFF, 0x7F, 0xFE, 0x7E, 0xF0, 0x70, 0xE4]),
@@ -364,7 +364,7 @@ fn add_entries(
 }
 
 /// Names that no sheet tries, some of them before all others in the order.
-fn odd_names(rng: &mut Rng, extent: Extent) -> Vec<String> {
+pub(super) fn odd_names(rng: &mut Rng, extent: Extent) -> Vec<String> {
     let long = "n".repeat(255);
     let umlauts = "\u{E9}-\u{F6}".to_string();
     let kana = "\u{65E5}\u{672C}-\u{8A9E}".to_string();
@@ -375,7 +375,7 @@ fn odd_names(rng: &mut Rng, extent: Extent) -> Vec<String> {
     (0..count).map(|_| rng.pick(&all[..usable])).collect()
 }
 
-fn add_entry(rng: &mut Rng, spec: &mut VoiceSpec, name: &[u8]) {
+pub(super) fn add_entry(rng: &mut Rng, spec: &mut VoiceSpec, name: &[u8]) {
     if spec.has(name) {
         return;
     }
@@ -411,7 +411,7 @@ fn periods(rng: &mut Rng, frames: usize) -> (u16, [u8; 2]) {
 }
 
 /// Sorted, sorted backwards, or in no order.
-fn order_entries(rng: &mut Rng, entries: &mut [EntrySpec]) {
+pub(super) fn order_entries(rng: &mut Rng, entries: &mut [EntrySpec]) {
     entries.sort_by(|a, b| a.name.cmp(&b.name));
     match rng.below(3) {
         0 => {}

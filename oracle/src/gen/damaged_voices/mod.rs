@@ -178,7 +178,8 @@ impl Cases<'_> {
     }
 }
 
-const CAUSES: [Refusal; 7] = [
+/// The causes that a voice can have.
+pub const CAUSES: [Refusal; 7] = [
     Refusal::Magic,
     Refusal::Section,
     Refusal::Backend,

@@ -1,0 +1,2 @@
+-- Whole calls, computed.
+pub mod Calls

@@ -1,0 +1,2 @@
+-- The root of worked's definitions.
+pub mod Tried

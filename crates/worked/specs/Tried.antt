@@ -1,0 +1,83 @@
+-- A whole call and the pulls after it, as plain numbers: one equation by `refl` then compares all that the definitions say of a call with another
+-- reading of document 01. The long line below opens every definition that a call computes with, so that a statement says `unfolding tried` alone;
+-- a definition that comes to a call's is added there.
+use mathlib.Core.List.{List, [], _∷_, map}
+use Prim.Native.Nat.{ℕ}
+use lib.IntN.{ℤ}
+use lib.Ieee.{ofBits, add, sub, mul, div, lt, le, ne, ofInt, toUnsigned, toSigned}
+use Rattle.base.specs.Lists.{every, firstFailing}
+use Rattle.base.specs.Buffers.{over, flat, upto}
+use Rattle.base.specs.Bytes.{littleEndian, bytesOf}
+use Rattle.base.specs.Words.{low, signed16}
+use Rattle.float.specs.Casts.{narrow}
+use Rattle.ulaw.specs.Ulaw.{decisionValue, quantisedValue, lastInterval, ulawOf, sampleOf}
+use Rattle.adpcm_float.specs.Floating.{exponent, mantissa, floata, srMag, floatb, anMag, wanMag, signed, fmult}
+use Rattle.adpcm_scale.specs.Scale.{magnitude, reconst, adda, antilog, dqOf, functw, filtd, limb, filte, mix, functf, filta, filtb, difm, subtc, filtc, triga, lima, speedOf}
+use Rattle.adpcm_predict.specs.Predictor.{sezi, sei, dqi, addb, sigpkOf, ugb, upb, zerosOf, fa1, fa, uga2, upa2, limc, uga1, upa1, limd, tone, thr2, trans, polesOf}
+use Rattle.adpcm.specs.Decoder.{fresh, signalsOf, delayed, nextOf, sampleIn, codesOf, decodedFrom, decoded}
+use Rattle.text.specs.Names.{same, before, among}
+use Rattle.text.specs.Utf8.{lead, step, waits, complete, utf8}
+use Rattle.text.specs.Trim.{spaceAt, trimStartBy, trimStart, trimEnd, trim}
+use Rattle.container.specs.Sections.{magic, hasMagic, isWhole, sectionsFrom, sections, find, saysDiphone, isDiphone}
+use Rattle.voice.specs.Header.{headerOf, inScale, goodHeader}
+use Rattle.voice.specs.Voice.{entryAt, wholeEntry, entriesFrom, voiceAt, placesOf, voiceOf, lookup, insert, sort, sorted, sortedIndex}
+use Rattle.voice.specs.Periods.{offset, residualOf, samplesOf, samplesIn, rowOf, longest}
+use Rattle.voice.specs.Opening.{hasNeeded, rising, goodTables, withinFrames, distinct, goodIndex, openingRefusal}
+use Rattle.phoneset.specs.Phones.{vowels, consonants, vc, isVowel}
+use Rattle.sheet.specs.Sheet.{_andThen_, groups, count, printable, name, isFinite, finite, valueOf, value, asF32, segment, target, repeated, sheetFrom, sheetRefusal, sheetOf}
+use Rattle.units.specs.Selecting.{foldName, folded, nameOf, inCluster, firstTried, entryOf}
+use Rattle.units.specs.Units.{samplesAt, midway, unitsOfPair, unitsFrom, unitsAll, endRefusal}
+use Rattle.marks.specs.PitchMarks.{f0At, goesOn, nextTime, markAt, climb, slopeOf, climbTo, marksFrom, pitchMarks}
+use Rattle.marks.specs.NaturalMarks.{marksOfPeriods, naturalMarks, naturalUnits, markRefusal}
+use Rattle.excitation.specs.Source.{decodedBy, sourceBy, sourceOf, centred}
+use Rattle.excitation.specs.Nearest.{nearestFrom, nearestPeriod, paceOf, placeAfterSize}
+use Rattle.excitation.specs.Taken.{periodOf, takeUnit, takenFrom, taken}
+use Rattle.lpc.specs.Filter.{cut, outputs, samples, periodsFrom}
+use Rattle.lpc.specs.Fixed.{scaledBy, rowValue, fixedSum, divided, fixedNext, fixedFilter}
+use Rattle.lpc.specs.Floating.{floatValue, floatSum, floatNext, floatFilter}
+use Rattle.lpc.specs.Ring.{tap, ringAfter, ringSamples}
+use Rattle.lpc.specs.State.{freshState, advanced, spoken, periodsBy}
+use Rattle.diphone.specs.declared.Settings.{Settings}
+use Rattle.diphone.specs.declared.Called.{Called}
+use Rattle.diphone.specs.declared.Called.the-variants.{Spoken, Refused}
+use Rattle.diphone.specs.Call.{simplePlan, modifiedPlan, planBy, planOf, periodsTaken, sizesOf, rowsOf, excitationOf, periodsOf}
+use Rattle.diphone.specs.Buffers.{Buffers, decodedOver, filled, decodeRoom, fits, checkRefusal, callRefusal, summaryOf, freshOf, zeroState, plannedOf, buffersAfter, calledNumber}
+use Rattle.diphone.specs.Pull.{Lent, possible, nextPart, pullOf, pullNumber}
+use Rattle.diphone.specs.Machine.{Shown, pulls}
+
+pub record Result : Type 0 where
+  -- document 01's number, 0 where the call is spoken
+  pub answer : ℕ
+  -- rate, periods, samples, marks, order, entries; nothing where the call is refused, as in the last two fields
+  pub summary : List ℕ
+  -- every byte of the six buffers afterwards
+  pub buffers : Buffers
+  -- the samples of each period
+  pub periods : List (List ℤ)
+  -- each pull's number, and every byte of its slice afterwards
+  pub pulled : List (ℤ × List ℕ)
+
+abbrev pub summaryIn : Called → List ℕ
+summaryIn (Spoken x) = x .rate ∷ x .periods ∷ x .samples ∷ x .marks ∷ x .order ∷ x .entries ∷ []
+summaryIn (Refused r) = []
+
+abbrev pub ifSpoken : {A : Type 0} → Called → List A → List A
+ifSpoken (Spoken x) l = l
+ifSpoken (Refused r) l = []
+
+-- a voice file, a sheet, settings, the buffers as they are lent, and a sample slice for each pull
+unfoldable pub tried : List ℕ → List ℕ → Settings → Buffers → List (List ℕ) → Result
+unfolding ofBits add sub mul div lt le ne ofInt toUnsigned toSigned every firstFailing over flat upto littleEndian bytesOf low narrow decisionValue quantisedValue lastInterval ulawOf sampleOf exponent mantissa floata srMag floatb anMag wanMag signed fmult magnitude reconst adda antilog dqOf functw filtd limb filte mix functf filta filtb difm subtc filtc triga lima speedOf sezi sei dqi addb sigpkOf ugb upb zerosOf fa1 fa uga2 upa2 limc uga1 upa1 limd tone thr2 trans polesOf fresh signalsOf delayed nextOf sampleIn codesOf decodedFrom decoded same before among lead step waits complete utf8 spaceAt trimStartBy trimStart trimEnd trim magic hasMagic isWhole sectionsFrom sections find saysDiphone isDiphone headerOf inScale goodHeader entryAt wholeEntry entriesFrom voiceAt placesOf voiceOf lookup insert sort sorted sortedIndex offset residualOf samplesOf samplesIn rowOf longest hasNeeded rising goodTables withinFrames distinct goodIndex openingRefusal vowels consonants vc isVowel _andThen_ groups count printable name isFinite finite valueOf value asF32 segment target repeated sheetFrom sheetRefusal sheetOf foldName folded nameOf inCluster firstTried entryOf samplesAt midway unitsOfPair unitsFrom unitsAll endRefusal f0At goesOn nextTime markAt climb slopeOf climbTo marksFrom pitchMarks marksOfPeriods naturalMarks naturalUnits markRefusal decodedBy sourceBy sourceOf centred nearestFrom nearestPeriod paceOf placeAfterSize periodOf takeUnit takenFrom taken cut outputs samples periodsFrom scaledBy rowValue fixedSum divided fixedNext fixedFilter floatValue floatSum floatNext floatFilter tap ringAfter ringSamples freshState advanced spoken periodsBy simplePlan modifiedPlan planBy planOf periodsTaken sizesOf rowsOf excitationOf periodsOf decodedOver filled decodeRoom fits checkRefusal callRefusal summaryOf freshOf zeroState plannedOf buffersAfter possible nextPart pullOf pulls
+tried file sheet o b ds =
+    let v = voiceOf file in
+    let s = sheetOf sheet in
+    let ps = periodsTaken v s o in
+    let call = plannedOf file sheet o b in
+    let lent : Lent = record { sizes = sizesOf ps; rows = rowsOf ps; excitation = excitationOf ps } in
+    record {
+      answer = calledNumber (call .answer);
+      summary = summaryIn (call .answer);
+      buffers = buffersAfter file sheet o b;
+      periods = ifSpoken (call .answer) (map (map signed16) (periodsOf v s o));
+      pulled = ifSpoken (call .answer) (map (λ (x : Shown). (pullNumber (x .answer), x .slice)) (pulls (call .state) lent ds));
+    }

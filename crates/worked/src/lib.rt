@@ -1,0 +1,1 @@
+// Whole calls, computed over the definitions.

@@ -1,0 +1,74 @@
+//! What a call is, in one line.
+
+use super::drafts::Draft;
+use super::expected::Expected;
+use super::kinds::Kind;
+use super::lent::Room;
+use crate::call::{Filter, Join};
+use crate::voicefile;
+
+/// What a call is: its kind up to the colon, then the details.
+pub fn about(kind: Kind, draft: &Draft, shown: &Expected) -> String {
+    let name = match kind {
+        Kind::Spoken(settings, _) => format!("spoken, {} join", join_name(settings.join)),
+        Kind::FarMarks => "spoken, marks far apart".to_string(),
+        Kind::LongPeriod => "spoken, long period".to_string(),
+        Kind::Rounding => "spoken, rounding that shows".to_string(),
+        Kind::Extended => "spoken, extended voice and longer sheet".to_string(),
+        Kind::Inside => "spoken, inside a limit".to_string(),
+        Kind::AtLimit(_) if shown.number == 0 => "spoken, at a limit".to_string(),
+        Kind::Several => format!("refused {} of several causes", shown.number),
+        _ => format!("refused {}", shown.number),
+    };
+    let mut details = Vec::new();
+    if !draft.reason.is_empty() {
+        details.push(printable(&draft.reason));
+    }
+    if shown.number == 0 {
+        details.extend(spoken_details(kind, draft, shown));
+    }
+    format!("{name}: {}", details.join(", "))
+}
+
+fn spoken_details(kind: Kind, draft: &Draft, shown: &Expected) -> Vec<String> {
+    let Ok(voice) = voicefile::open(&draft.voice) else {
+        return Vec::new();
+    };
+    let either = |first: bool, a: &str, b: &str| (if first { a } else { b }).to_string();
+    let settings = draft.settings;
+    let mut details = Vec::new();
+    if !matches!(kind, Kind::Spoken(..)) {
+        details.push(format!("{} join", join_name(settings.join)));
+    }
+    details.extend([
+        either(settings.filter == Filter::Fixed, "fixed", "float"),
+        either(settings.fold, "fold", "no fold"),
+        either(voice.is_g721(), "G.721", "mu-law"),
+        either(voice.has_sizes(), "sizes", "no sizes"),
+        format!("order {}", voice.order()),
+        either(draft.room == Room::Exact, "exact buffers", "longer buffers"),
+    ]);
+    let [marks, periods, samples] = [3, 1, 2].map(|i| shown.summary[i]);
+    let pulls = shown.pulled.len();
+    details.push(format!(
+        "{marks} marks, {periods} periods, {samples} samples, {pulls} pulls"
+    ));
+    details
+}
+
+fn join_name(join: Join) -> &'static str {
+    match join {
+        Join::None => "no",
+        Join::Simple => "simple",
+        Join::Modified => "modified",
+    }
+}
+
+/// A text for a comment of one line.
+fn printable(text: &str) -> String {
+    let shown = |c: char| match c.is_ascii_graphic() || c == ' ' {
+        true => c,
+        false => '?',
+    };
+    text.chars().map(shown).collect()
+}

@@ -1,0 +1,267 @@
+//! What a call must show: where it is spoken by the Rust, where it is refused
+//! by document 01.
+
+use super::lent::{Buffers, WIDTHS};
+use crate::call::{self, Settings};
+use crate::diphone::access;
+use crate::diphone::DiphoneVoice;
+use crate::dsp;
+use crate::reference::{self, Filled, Fitness, Parsed};
+use crate::refusal::Refusal;
+use crate::sheet::{self, Sheet};
+use crate::voicefile::{self, Voice};
+
+pub const SHORT_BUFFER: usize = 13;
+
+/// The most that a call may make.
+#[derive(Clone, Copy, Debug, PartialEq, Eq)]
+pub struct Most {
+    pub marks: usize,
+    pub samples: usize,
+}
+
+/// What a call gives apart from its buffers' lengths.
+pub enum Given {
+    Spoken(Spoken),
+    Refused(Refusal),
+}
+
+pub struct Spoken {
+    /// Rate, periods, samples, marks, order, entries.
+    pub summary: [usize; 6],
+    /// The bytes that it fills, buffer by buffer.
+    pub filled: Buffers,
+    /// The elements that each buffer must have room for.
+    pub needed: [usize; 6],
+    pub periods: Vec<Vec<i16>>,
+}
+
+/// What a pull shows: its number, and every byte of its slice afterwards.
+pub type Shown = (i64, Vec<u8>);
+
+/// What the call and its pulls show.
+pub struct Expected {
+    pub number: usize,
+    pub summary: Vec<usize>,
+    pub buffers: Buffers,
+    pub periods: Vec<Vec<i16>>,
+    pub pulled: Vec<Shown>,
+}
+
+/// Nothing where the call makes more than `most`.
+pub fn given(voice: &[u8], sheet: &[u8], settings: Settings, most: Most) -> Option<Given> {
+    match read(voice, sheet, settings, most.marks) {
+        Err(refusal) => refusal.map(Given::Refused),
+        Ok((read, sheet, marks)) => {
+            let spoken = speak(voice, &read, &sheet, settings, &marks)?;
+            let small = spoken.summary[2] <= most.samples;
+            small.then_some(Given::Spoken(spoken))
+        }
+    }
+}
+
+/// The voice, the sheet and the marks by document 01, or its refusal. An error
+/// without a refusal says that there are more marks than `most`.
+fn read<'a>(
+    voice: &'a [u8],
+    sheet: &[u8],
+    settings: Settings,
+    most: usize,
+) -> Result<(Voice<'a>, Sheet, Vec<usize>), Option<Refusal>> {
+    let voice = voicefile::open(voice)?;
+    let sheet = sheet::read(sheet)?;
+    let mut marks = Vec::new();
+    let made = call::make_marks(&voice, &sheet, settings, &mut marks);
+    if marks.len() > most {
+        return Err(None);
+    }
+    made?;
+    Ok((voice, sheet, marks))
+}
+
+/// The call as the Rust speaks it. Nothing where that would take long.
+fn speak(
+    file: &[u8],
+    voice: &Voice,
+    sheet: &Sheet,
+    settings: Settings,
+    marks: &[usize],
+) -> Option<Spoken> {
+    let Parsed::Voice(rust) = reference::parse(file) else {
+        panic!("the Rust does not open a good voice");
+    };
+    let periods = match reference::fitness(voice, sheet, settings, marks) {
+        Fitness::Fit => reference::speak(&rust, sheet, settings),
+        // Fewer than two segments: document 01 gives zero periods.
+        Fitness::MakesMarksWithoutUnits(_) => Vec::new(),
+        Fitness::TakesLong => return None,
+    };
+    let filled = reference::fill(&rust, sheet, settings);
+    assert_eq!(filled.marks, marks, "marks of the Rust and of document 01");
+    Some(spoken(voice, &rust, &filled, periods))
+}
+
+fn spoken(read: &Voice, rust: &DiphoneVoice, filled: &Filled, periods: Vec<Vec<i16>>) -> Spoken {
+    let taken = &filled.taken;
+    let lengths: Vec<usize> = periods.iter().map(Vec::len).collect();
+    assert_eq!(taken.sizes, lengths, "sizes and lengths of the periods");
+    let index: Vec<usize> = read.index.iter().map(|entry| entry.at).collect();
+    let rows: Vec<usize> = taken.rows.iter().map(|q| usize::from(*q)).collect();
+    Spoken {
+        summary: [
+            read.header.rate as usize,
+            taken.sizes.len(),
+            taken.residual.len(),
+            filled.marks.len(),
+            read.order(),
+            index.len(),
+        ],
+        needed: [
+            index.len(),
+            filled.marks.len(),
+            taken.sizes.len(),
+            rows.len(),
+            taken.residual.len(),
+            decode_room(read),
+        ],
+        filled: [
+            packed(&index, WIDTHS[0]),
+            packed(&filled.marks, WIDTHS[1]),
+            packed(&taken.sizes, WIDTHS[2]),
+            packed(&rows, WIDTHS[3]),
+            taken.residual.clone(),
+            decoded(read, rust, filled),
+        ],
+        periods,
+    }
+}
+
+/// Little-endian numbers of a width.
+fn packed(numbers: &[usize], width: usize) -> Vec<u8> {
+    let bytes = |number: &usize| number.to_le_bytes()[..width].to_vec();
+    numbers.iter().flat_map(bytes).collect()
+}
+
+/// Twice the bytes of the longest period, 0 for mu-law.
+fn decode_room(voice: &Voice) -> usize {
+    match voice.is_g721() {
+        true => 2 * voice.longest(),
+        false => 0,
+    }
+}
+
+/// What of the decode buffer is written: each taken period of size above 0 is
+/// decoded to its front, over the one before.
+fn decoded(read: &Voice, rust: &DiphoneVoice, filled: &Filled) -> Vec<u8> {
+    let mut front = Vec::new();
+    if !read.is_g721() {
+        return front;
+    }
+    let numbers = taken_periods(read, rust, filled);
+    for (number, size) in numbers.iter().zip(&filled.taken.sizes) {
+        if *size > 0 {
+            front = over(&dsp::access::decode_adpcm(read.stored(*number)), &front);
+        }
+    }
+    front
+}
+
+/// The voice's period that each taken size comes from.
+fn taken_periods(read: &Voice, rust: &DiphoneVoice, filled: &Filled) -> Vec<usize> {
+    let mut numbers = Vec::new();
+    let mut end_before = 0;
+    for unit in &filled.units {
+        let samples: usize = (unit.first_period..unit.last_period)
+            .map(|period| read.samples(period))
+            .sum();
+        let span = unit.target_end.saturating_sub(end_before).max(1);
+        let pace = samples as f32 / span as f32;
+        let mut place = 0.0f32;
+        while let Some(size) = filled.taken.sizes.get(numbers.len()) {
+            if filled.marks[numbers.len()] > unit.target_end {
+                break;
+            }
+            numbers.push(access::nearest_period(rust, unit, place));
+            place += *size as f32 * pace;
+        }
+        end_before = unit.target_end;
+    }
+    let rows: Vec<u16> = numbers.iter().flat_map(|n| read.row(*n)).collect();
+    assert_eq!(filled.taken.rows, rows, "rows of the taken periods");
+    assert_eq!(filled.taken.sizes.len(), numbers.len(), "taken periods");
+    numbers
+}
+
+/// A buffer whose front was filled.
+fn over(new: &[u8], old: &[u8]) -> Vec<u8> {
+    let rest = old.get(new.len()..).unwrap_or(&[]);
+    [new, rest].concat()
+}
+
+/// A refused call leaves all, and nothing is pulled after it.
+pub fn refused(number: usize, lent: &Buffers) -> Expected {
+    Expected {
+        number,
+        summary: Vec::new(),
+        buffers: lent.clone(),
+        periods: Vec::new(),
+        pulled: Vec::new(),
+    }
+}
+
+impl Given {
+    /// The number of a call that is refused; 13 where all but its buffers is
+    /// in order.
+    pub fn number(&self) -> usize {
+        match self {
+            Given::Refused(refusal) => refusal.number(),
+            Given::Spoken(_) => SHORT_BUFFER,
+        }
+    }
+
+    /// The elements that each buffer needs; some number where it does not
+    /// matter.
+    pub fn needed(&self) -> [usize; 6] {
+        match self {
+            Given::Refused(_) => [1; 6],
+            Given::Spoken(spoken) => spoken.needed,
+        }
+    }
+}
+
+impl Spoken {
+    /// Whether each buffer has enough whole elements.
+    pub fn fits(&self, lent: &Buffers) -> bool {
+        (0..6).all(|i| self.needed[i] <= lent[i].len() / WIDTHS[i])
+    }
+
+    /// With buffers that are long enough, and a slice for each pull.
+    pub fn with(&self, lent: &Buffers, slices: &[Vec<u8>]) -> Expected {
+        Expected {
+            number: 0,
+            summary: self.summary.to_vec(),
+            buffers: std::array::from_fn(|i| over(&self.filled[i], &lent[i])),
+            periods: self.periods.clone(),
+            pulled: pulled(&self.periods, slices),
+        }
+    }
+}
+
+/// Document 01's plain machine on the Rust's periods.
+fn pulled(periods: &[Vec<i16>], slices: &[Vec<u8>]) -> Vec<Shown> {
+    let mut count = 0;
+    let mut shown = Vec::new();
+    for slice in slices {
+        let answer = match periods.get(count) {
+            None => (-1, slice.clone()),
+            Some(period) if slice.len() / 2 < period.len() => (-14, slice.clone()),
+            Some(period) => {
+                count += 1;
+                let samples: Vec<u8> = period.iter().flat_map(|s| s.to_le_bytes()).collect();
+                (period.len() as i64, over(&samples, slice))
+            }
+        };
+        shown.push(answer);
+    }
+    shown
+}

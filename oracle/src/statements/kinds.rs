@@ -1,0 +1,138 @@
+//! The kinds of calls that a run goes through.
+
+use super::expected::{Given, Most, Spoken, SHORT_BUFFER};
+use super::rounding;
+use crate::call::{Join, Settings, FILTERS};
+use crate::gen::damaged_voices::CAUSES;
+use crate::gen::small::Shape;
+use crate::refusal::Refusal;
+use crate::rng::Rng;
+
+/// The most that a call may make, so that it is computed in about a second.
+const SMALL: Most = Most {
+    marks: 32,
+    samples: 120,
+};
+const LONG: Most = Most {
+    marks: 12,
+    samples: 300,
+};
+const ANY: Most = Most {
+    marks: usize::MAX,
+    samples: usize::MAX,
+};
+
+#[derive(Clone, Copy, Debug, PartialEq, Eq)]
+pub enum Kind {
+    /// Spoken, by the settings and the voice's shape.
+    Spoken(Settings, Shape),
+    /// Spoken, with marks that lie far apart.
+    FarMarks,
+    /// Spoken, with a long G.721 period.
+    LongPeriod,
+    /// Spoken, by samples that tell how the float filter rounds.
+    Rounding,
+    /// Spoken, a longer sheet on an extended voice.
+    Extended,
+    /// Spoken, a voice or a call just inside a limit.
+    Inside,
+    /// The call at a limit that has this reason, spoken or refused.
+    AtLimit(&'static str),
+    /// Refused for its voice, with 1 to 7.
+    Voice(Refusal),
+    /// Refused for its sheet, with 8 or 9.
+    Sheet(Refusal),
+    /// Refused for its slopes, marks or target ends.
+    Call(Refusal),
+    /// Refused with 12, one mark too many, or with all marks for its buffers.
+    ManyMarks { too_many: bool },
+    /// Refused with 13 for one buffer.
+    Short(usize),
+    /// Refused, with several causes.
+    Several,
+}
+
+impl Kind {
+    /// The most that a call of this kind may make.
+    pub fn most(self) -> Most {
+        match self {
+            Kind::LongPeriod => LONG,
+            Kind::ManyMarks { .. } => ANY,
+            _ => SMALL,
+        }
+    }
+}
+
+/// Every kind, mixed.
+pub fn all() -> Vec<Kind> {
+    let mut kinds = spoken_kinds();
+    kinds.extend([Kind::FarMarks; 3]);
+    kinds.extend([Kind::LongPeriod; 2]);
+    kinds.push(Kind::Rounding);
+    kinds.extend([Kind::Extended; 3]);
+    kinds.extend([Kind::Inside; 2]);
+    kinds.extend(AT_LIMITS.map(Kind::AtLimit));
+    kinds.extend(CAUSES.map(Kind::Voice));
+    kinds.extend([Refusal::Sheet, Refusal::NotFinite].map(Kind::Sheet));
+    kinds.extend([Refusal::Slope, Refusal::TooFar].map(Kind::Call));
+    kinds.extend([true, false].map(|too_many| Kind::ManyMarks { too_many }));
+    kinds.extend((0..6).map(Kind::Short));
+    kinds.extend([Kind::Several; 5]);
+    Rng::new(0).shuffle(&mut kinds);
+    kinds
+}
+
+/// Calls of `gen/damaged_calls.rs` at a limit and just past it.
+const AT_LIMITS: [&str; 9] = [
+    "slope at f32's largest",
+    "slope just below the tie",
+    "slope at the tie to infinity",
+    "left target end at the limit",
+    "left target end one above",
+    "middle target end at the limit",
+    "middle target end one above",
+    "first mark at the limit",
+    "first mark one above the limit",
+];
+
+/// Every setting with every shape; of join none, which says little, each
+/// setting once.
+fn spoken_kinds() -> Vec<Kind> {
+    let mut kinds = Vec::new();
+    for settings in Settings::all() {
+        for (g721, sizes) in [(false, false), (false, true), (true, false), (true, true)] {
+            let first = g721 == settings.fold && sizes == (settings.filter == FILTERS[1]);
+            if settings.join != Join::None || first {
+                kinds.push(Kind::Spoken(settings, Shape { g721, sizes }));
+            }
+        }
+    }
+    kinds
+}
+
+/// Whether a call that gets this number is one of the kind. Most spoken calls
+/// are to have periods.
+pub fn is_of(rng: &mut Rng, kind: Kind, voice: &[u8], given: &Given, number: usize) -> bool {
+    match (kind, given) {
+        (Kind::AtLimit(_), _) => true,
+        (Kind::Voice(cause) | Kind::Sheet(cause) | Kind::Call(cause), _) => {
+            number == cause.number()
+        }
+        (Kind::ManyMarks { too_many: true }, _) => number == Refusal::TooManyMarks.number(),
+        (Kind::ManyMarks { .. } | Kind::Short(_), _) => number == SHORT_BUFFER,
+        (Kind::Several, _) => number != 0,
+        (_, Given::Spoken(spoken)) => number == 0 && is_spoken(rng, kind, voice, spoken),
+        _ => false,
+    }
+}
+
+fn is_spoken(rng: &mut Rng, kind: Kind, voice: &[u8], call: &Spoken) -> bool {
+    let periods = call.periods.len();
+    match kind {
+        Kind::Spoken(settings, _) => settings.join == Join::None || periods > 1 || rng.once_in(150),
+        Kind::Inside => periods > 0 || rng.once_in(4),
+        Kind::FarMarks => call.needed[1] > 2,
+        Kind::Rounding => rounding::shows(voice, call),
+        _ => periods > 1,
+    }
+}

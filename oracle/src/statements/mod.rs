@@ -1,0 +1,98 @@
+//! `oracle statements`: small calls and what they must show, as statements for
+//! the definitions. A check of the file computes them.
+
+mod about;
+mod antt;
+mod drafts;
+mod expected;
+mod kinds;
+mod lent;
+mod rounding;
+
+use crate::args::Args;
+use crate::call::Settings;
+use crate::rng::Rng;
+use drafts::{Draft, Limits};
+use expected::{Expected, Given};
+use kinds::Kind;
+use lent::Buffers;
+
+/// Calls in a run that is not told otherwise.
+const CALLS: u64 = 30;
+
+/// Draws for one call before something must be wrong.
+const MOST_DRAWS: usize = 20_000;
+
+/// A call as it is made.
+struct Call {
+    voice: Vec<u8>,
+    sheet: Vec<u8>,
+    settings: Settings,
+    lent: Buffers,
+    slices: Vec<Vec<u8>>,
+}
+
+pub fn run(args: &Args) -> bool {
+    let Some(out) = &args.out else {
+        eprintln!("oracle statements: --out FILE says where they go");
+        return false;
+    };
+    let limits = Limits::new();
+    let end = args.from + args.count.unwrap_or(CALLS);
+    let mut text = antt::HEAD.to_string();
+    for number in args.from..end {
+        text += &statement(args.seed, number, &limits);
+    }
+    if let Err(error) = std::fs::write(out, text) {
+        eprintln!("oracle statements: {out}: {error}");
+        return false;
+    }
+    println!(
+        "oracle statements: seed {}, calls {} to {}",
+        args.seed,
+        args.from,
+        end - 1
+    );
+    true
+}
+
+/// The statement of one number. It depends on the seed and the number only.
+fn statement(seed: u64, number: u64, limits: &Limits) -> String {
+    let kinds = kinds::all();
+    let kind = kinds[number as usize % kinds.len()];
+    let rng = &mut Rng::for_case(seed, 3_000_000 + number);
+    for _ in 0..MOST_DRAWS {
+        let tried = drafts::draft(rng, kind, limits).and_then(|draft| judged(rng, kind, draft));
+        if let Some((call, about, shown)) = tried {
+            return antt::statement(number, &about, &call, &shown);
+        }
+    }
+    panic!("no call {number} of {kind:?} in {MOST_DRAWS} draws");
+}
+
+/// The call with its buffers and slices, what it is, and what it must show.
+/// Nothing where it is not of its kind.
+fn judged(rng: &mut Rng, kind: Kind, draft: Draft) -> Option<(Call, String, Expected)> {
+    let given = expected::given(&draft.voice, &draft.sheet, draft.settings, kind.most())?;
+    let lent = lent::lend(rng, &given.needed(), draft.room)?;
+    let (slices, shown) = match &given {
+        Given::Spoken(spoken) if spoken.fits(&lent) => {
+            let slices = lent::slices(rng, &spoken.periods);
+            let shown = spoken.with(&lent, &slices);
+            (slices, shown)
+        }
+        other => (vec![vec![1, 2]], expected::refused(other.number(), &lent)),
+    };
+    if !kinds::is_of(rng, kind, &draft.voice, &given, shown.number) {
+        return None;
+    }
+    let about = about::about(kind, &draft, &shown);
+    let call = Call {
+        voice: draft.voice,
+        sheet: draft.sheet,
+        settings: draft.settings,
+        lent,
+        slices,
+    };
+    Some((call, about, shown))
+}
