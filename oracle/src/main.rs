@@ -7,6 +7,8 @@ include!(concat!(env!("OUT_DIR"), "/root.rs"));
 
 mod args;
 mod call;
+#[cfg(feature = "probe")]
+mod codecs;
 mod examples;
 #[cfg(feature = "probe")]
 mod float_inputs;
@@ -30,7 +32,8 @@ use std::process::ExitCode;
 const USAGE: &str = "usage:
   oracle self [--seed N] [--count N]
   oracle statements [--seed N] [--from N] [--count N] --out FILE
-  oracle floats [--seed N] [--count N] [--all]";
+  oracle floats [--seed N] [--count N] [--all]
+  oracle codecs [--seed N] [--count N]";
 
 fn main() -> ExitCode {
     let words: Vec<String> = std::env::args().skip(1).collect();
@@ -46,8 +49,10 @@ fn main() -> ExitCode {
         "statements" => statements::run(&args),
         #[cfg(feature = "probe")]
         "floats" => floats::run(&args),
+        #[cfg(feature = "probe")]
+        "codecs" => codecs::run(&args),
         #[cfg(not(feature = "probe"))]
-        "floats" => return usage("built without the feature probe"),
+        "floats" | "codecs" => return usage("built without the feature probe"),
         other => return usage(&format!("unknown command {other}")),
     };
     match agreed {

@@ -1,5 +1,5 @@
-//! The functions of libprobe.a. They take and return numbers and touch no
-//! memory, so calling them is safe.
+//! The functions of libprobe.a. Those that take and return
+//! numbers touch no memory, so calling them is safe.
 
 unsafe extern "C" {
     pub safe fn probe_f64_to_f32(x: f64) -> f32;
@@ -16,4 +16,13 @@ unsafe extern "C" {
     pub safe fn probe_is_nearer(p: f32, a: f32, b: f32) -> u8;
     pub safe fn probe_wrapping_mul(a: u32, b: u32) -> u32;
     pub safe fn probe_divide_by_16384(acc: u32) -> u32;
+    pub safe fn probe_ulaw_to_i16(byte: u8) -> i16;
+    pub safe fn probe_i16_to_ulaw(sample: i16) -> u8;
+    fn probe_decode_adpcm(packed: *const u8, packed_len: usize, out: *mut u8, out_len: usize);
+}
+
+/// A slice reaches C as a pointer and a count.
+pub fn decode_adpcm(packed: &[u8], out: &mut [u8]) {
+    // SAFETY: both are slices of their lengths, and they do not overlap.
+    unsafe { probe_decode_adpcm(packed.as_ptr(), packed.len(), out.as_mut_ptr(), out.len()) }
 }

@@ -1,6 +1,5 @@
 -- The decoder of ITU-T G.726 at 32 kbit/s (G.721): the blocks joined as in the Recommendation's figures, and the delays.
--- Departures, all of them after SR: a sample is 4 times SR kept to 16 bits, where the Recommendation limits it; no synchronous coding adjustment
--- is made; the decoder is reset for each period, and the code 0 is accepted.
+-- The departures are two, both after SR, at `sampleIn`. The reset for each period is a use of the Recommendation's reset.
 use mathlib.Core.List.{List, [], _∷_}
 use Prim.Native.Nat.{ℕ, _*_, _/_, _%_}
 use lib.Dec.{eqb}
@@ -49,14 +48,14 @@ signalsOf s i =
 unfoldable pub delayed : ℕ → List ℕ → List ℕ
 delayed dq dqs = floata dq ∷ getD dqs 0 0 ∷ getD dqs 1 0 ∷ getD dqs 2 0 ∷ getD dqs 3 0 ∷ getD dqs 4 0 ∷ []
 
--- TRIGB: 0 in place of a coefficient or of the tone detector on a transition
+-- TRIGB (4.2.6): 0 in place of a coefficient or of the tone detector on a transition
 abbrev pub trigb : ℕ → ℕ → ℕ
 trigb tr x = pick (eqb tr 0) x 0
 
 abbrev pub trigbs : ℕ → List ℕ → List ℕ
 trigbs tr xs = pick (eqb tr 0) xs (0 ∷ 0 ∷ 0 ∷ 0 ∷ 0 ∷ 0 ∷ [])
 
--- the delays after the code
+-- DELAY: the delays after the code
 unfoldable pub nextOf : AdpcmState → ℕ → Signals → AdpcmState
 nextOf s i g =
     let yup = limb (filtd (functw i) (g .y)) in
@@ -79,7 +78,9 @@ nextOf s i g =
       td = trigb (g .tr) (p .td);
     }
 
--- 'a sample is 4 times the Recommendation's, kept to 16 bits, then its mu-law byte'
+-- 'a sample is 4 times the Recommendation's, kept to 16 bits, then its mu-law byte'. Departures from 4.2.8: COMPRESS puts an SR outside ±8159 into
+-- G.711's last interval, here 4 * SR wraps (bytes 77 77 77 77 77 76: SR 8844, sample -30160, byte 2); and the synchronous coding adjustment SYNC is
+-- not made (code 0 after the reset: byte 255, with SYNC 254).
 unfoldable pub sampleIn : Signals → ℤ
 sampleIn g = signed16 (4 * g .sr % 65536)
 

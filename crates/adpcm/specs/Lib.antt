@@ -1,2 +1,3 @@
 -- The root of adpcm's definitions.
 pub mod Decoder
+pub mod Words

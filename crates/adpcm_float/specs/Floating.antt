@@ -1,7 +1,7 @@
 -- ITU-T G.726, 4.2.6: the predictor's floating format (sign 1, exponent 4 and mantissa 6 bits) and the product in it.
 -- In all blocks a signal of n bits is a number below 2 ^ n; a negative one is in two's complement unless the Recommendation's list of signals says
 -- signed magnitude (DQ) or floating format (DQn, SRn). `>> k` is `/ 2 ^ k`, `<< k` is `* 2 ^ k`, `& (2 ^ k - 1)` is `% 2 ^ k`, and the `**` of
--- two bits is their sum modulo 2.
+-- two bits is their sum modulo 2. The words are as wide as in G.726; where those of G.721 (1988) are narrower, no value at 32 kbit/s needs more.
 use Prim.Native.Nat.{ℕ, zero, suc, _+_, _-_, _*_, _/_, _%_, _^_}
 use lib.Dec.{leb, ltb, eqb}
 use Rattle.base.specs.Choice.{pick}
@@ -30,7 +30,7 @@ floatb sr = sr / 32768 * 1024 + exponent 15 (srMag sr) * 64 + mantissa (srMag sr
 unfoldable pub anMag : ℕ → ℕ
 anMag an = pick (ltb an 32768) (an / 4) ((16384 - an / 4) % 8192)
 
--- WAnMAG, from WAnMANT and WAnEXP
+-- WAnMAG, from WAnMANT = (SRnMANT * AnMANT + 48) >> 4 and WAnEXP = SRnEXP + AnEXP
 unfoldable pub wanMag : ℕ → ℕ → ℕ
 wanMag mant exp = pick (leb exp 26) (mant * 128 / 2 ^ (26 - exp)) (mant * 128 * 2 ^ (exp - 26) % 32768)
 
@@ -38,6 +38,7 @@ wanMag mant exp = pick (leb exp 26) (mant * 128 / 2 ^ (26 - exp)) (mant * 128 * 
 unfoldable pub signed : ℕ → ℕ → ℕ
 signed sign mag = pick (eqb sign 0) mag ((65536 - mag) % 65536)
 
+-- WAn, its sign AnS ** SRnS
 unfoldable pub fmult : ℕ → ℕ → ℕ
 fmult an srn =
     signed ((an / 32768 + srn / 1024) % 2)

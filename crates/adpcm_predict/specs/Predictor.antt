@@ -26,13 +26,13 @@ dqi dq = pick (ltb dq 32768) dq ((65536 - dq % 32768) % 65536)
 unfoldable pub addb : ℕ → ℕ → ℕ
 addb dq se = (dqi dq + (se + 32768 * (se / 16384))) % 65536
 
--- SIGPK: 1 where DQSEZ is 0
+-- ADDC: SIGPK, 1 where DQSEZ is 0 (PK0 is the sign of DQSEZ)
 unfoldable pub sigpkOf : ℕ → ℕ
 sigpkOf dqsez = pick (eqb dqsez 0) 1 0
 
 -- ---- the zeros' coefficients
 
--- XOR and UPB: BnP from Bn, DQ and DQn. Every step is modulo 65,536; nothing saturates.
+-- XOR and UPB: BnP from Bn, DQ and DQn. Every step is modulo 65,536: the blocks decide, where the prose calls the coefficients limited to ±2.
 unfoldable pub ugb : ℕ → ℕ → ℕ
 ugb dq dqn = pick (eqb (dq % 32768) 0) 0 (pick (eqb ((dq / 32768 + dqn / 1024) % 2) 0) 128 65408)
 
@@ -54,7 +54,8 @@ zerosOf dq dqs b =
 
 -- ---- the poles' coefficients
 
--- UPA2: FA1 is 4 × A1 limited to 17 bits, FA its sign by PKS1
+-- UPA2: FA1, 17 bits, is 4 times A1 limited to ±8191; FA is FA1 where PKS1 is 1, else -FA1; UGA2A is 16384 where PKS2 is 0, else 114688
+-- (-16384); UGA2B is their sum
 unfoldable pub fa1 : ℕ → ℕ
 fa1 a1 = pick (ltb a1 32768) (pick (leb a1 8191) (a1 * 4) 32764) (pick (leb 57345 a1) (a1 * 4 % 131072) 98308)
 
@@ -75,7 +76,7 @@ upa2 pks1 pks2 sigpk a1 a2 =
 unfoldable pub limc : ℕ → ℕ
 limc a2t = pick (ltb a2t 32768) (pick (leb 12288 a2t) 12288 a2t) (pick (leb a2t 53248) 53248 a2t)
 
--- UPA1
+-- UPA1 (its PKS is PKS1)
 unfoldable pub uga1 : ℕ → ℕ → ℕ
 uga1 pks1 sigpk = pick (eqb sigpk 1) 0 (pick (eqb pks1 0) 192 65344)
 
@@ -104,7 +105,7 @@ thr2 yl = pick (ltb 9 (yl / 32768)) 31744 ((32 + yl / 1024 % 32) * 2 ^ (yl / 327
 unfoldable pub trans : ℕ → ℕ → ℕ → ℕ
 trans td yl dq = pick (eqb td 1) (pick (ltb ((thr2 yl + thr2 yl / 2) / 2) (dq % 32768)) 1 0) 0
 
--- the poles after a code
+-- the poles after a code: A1P, A2P and TDP, under the names of the signals that they are the next time
 unfoldable pub polesOf : ℕ → ℕ → ℕ → ℕ → ℕ → ℕ → Poles
 polesOf a1 a2 pk0 pk1 pk2 sigpk =
     let pks1 = (pk0 + pk1) % 2 in

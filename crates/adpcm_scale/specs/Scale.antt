@@ -7,13 +7,13 @@ use lib.ListN.{getD}
 use Rattle.base.specs.Choice.{pick}
 use Rattle.adpcm_scale.specs.declared.Speed.{Speed}
 
--- the magnitude of a code I of four bits: I is in one's complement, so from 8 on it is 15 - I
+-- IM, the magnitude of a code I of four bits: I is in one's complement, so from 8 on it is 15 - I
 unfoldable pub magnitude : ℕ → ℕ
 magnitude i = pick (ltb i 8) i (15 - i)
 
 -- ---- 4.2.3: inverse adaptive quantizer
 
--- RECONST: DQLN, 12 bits, by the code's magnitude (2048 is -2048)
+-- RECONST: DQLN, 12 bits, by the code's magnitude (2048 is -2048). Its table has a row for the code 0, which an encoder never sends.
 unfoldable pub reconst : ℕ → ℕ
 reconst i = getD (2048 ∷ 4 ∷ 135 ∷ 213 ∷ 273 ∷ 323 ∷ 373 ∷ 425 ∷ []) (magnitude i) 0
 
@@ -21,11 +21,11 @@ reconst i = getD (2048 ∷ 4 ∷ 135 ∷ 213 ∷ 273 ∷ 323 ∷ 373 ∷ 425 ∷
 unfoldable pub adda : ℕ → ℕ → ℕ
 adda dqln y = (dqln + y / 4) % 4096
 
--- ANTILOG: DQMAG, 0 where DQL is negative
+-- ANTILOG: DQMAG, 0 where DQL is negative. Y is at most 5120, so DEX = DQL >> 7 is at most 13 where DQL is not negative.
 unfoldable pub antilog : ℕ → ℕ
 antilog dql = pick (ltb dql 2048) ((128 + dql % 128) * 128 / 2 ^ (14 - dql / 128 % 16)) 0
 
--- DQ of a code at the scale Y: the sign DQS, and DQMAG
+-- DQ of a code at the scale Y: RECONST's sign DQS, and DQMAG
 unfoldable pub dqOf : ℕ → ℕ → ℕ
 dqOf i y = i / 8 * 32768 + antilog (adda (reconst i) y)
 
@@ -51,7 +51,7 @@ filte yup yl =
     let dif = (yup + (1048576 - yl) / 64) % 16384 in
     (yl + dif + 507904 * (dif / 8192)) % 524288
 
--- MIX: Y, from both scale factors and the limited speed control AL
+-- MIX: Y, from both scale factors and the limited speed control AL: (YL >> 6) plus PROD, which is DIFM * AL >> 6 with the sign of DIF
 unfoldable pub mix : ℕ → ℕ → ℕ → ℕ
 mix al yu yl =
     let dif = (yu + 16384 - yl / 64) % 16384 in
@@ -77,7 +77,7 @@ filtb fi dml =
     let dif = (fi * 2048 + 32768 - dml) % 32768 in
     (dif / 128 + 16128 * (dif / 16384) + dml) % 16384
 
--- SUBTC: AX, 0 where the scale is large, the averages agree and no tone is detected
+-- SUBTC: AX, 0 where the scale is large, the averages agree (DIFM below DTHR) and no tone is detected
 unfoldable pub difm : ℕ → ℕ → ℕ
 difm dmsp dmlp =
     let dif = (dmsp * 4 + 32768 - dmlp) % 32768 in
@@ -100,7 +100,7 @@ triga tr app = pick (eqb tr 0) app 256
 unfoldable pub lima : ℕ → ℕ
 lima ap = pick (ltb ap 256) (ap / 4) 64
 
--- the speed control's delays after a code
+-- the speed control's delays after a code: DMSP, DMLP and APR, under the names of the signals that they are the next time
 unfoldable pub speedOf : ℕ → ℕ → ℕ → ℕ → ℕ → ℕ → ℕ → Speed
 speedOf fi dms dml ap tdp y tr =
     let dmsp = filta fi dms in

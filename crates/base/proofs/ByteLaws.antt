@@ -7,7 +7,7 @@ use native.Mathlib.Omega.{arith}
 use lib.ListN.{length, take, drop, getD}
 use lib.Seq.{sets, sets-eq, drop-cons, drop-at, length-take-le, getD-drop}
 use Rattle.base.specs.Buffers.{flat}
-use Rattle.base.specs.Bytes.{littleEndian, bytesOf, elements}
+use Rattle.base.specs.Bytes.{Bytes, littleEndian, bytesOf, elements}
 use Rattle.base.specs.Lists.{part}
 use Rattle.base.proofs.BufferLaws.{sets-append, length-flat, upto-is}
 use Rattle.base.proofs.ListLaws.{getD-part}
@@ -136,7 +136,7 @@ elements-flat k ws hk small =
 
 -- ---- what was read is written back
 
-module _ (s : List ℕ) (small : (i : ℕ) → getD s i 0 < 256) where
+module _ (s : List ℕ) (small : Bytes s) where
   pub littleEndian-lt : (k at : ℕ) → littleEndian k s at < 256 ^ k
   unfolding littleEndian
   littleEndian-lt zero at = omega arith

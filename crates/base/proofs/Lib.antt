@@ -2,6 +2,7 @@
 pub mod CaseLaws
 pub mod ListLaws
 pub mod BufferLaws
+pub mod BoundLaws
 pub mod ByteLaws
 pub mod WordLaws
 pub mod TableLaws

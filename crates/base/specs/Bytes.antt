@@ -1,8 +1,12 @@
 -- Little-endian numbers in lists of bytes.
 use mathlib.Core.List.{List, [], _∷_}
-use Prim.Native.Nat.{ℕ, zero, suc, _+_, _*_, _/_, _%_}
+use Prim.Native.Nat.{ℕ, zero, suc, _+_, _*_, _/_, _%_, _<_}
 use lib.ListN.{length, getD}
 use Rattle.base.specs.Buffers.{upto}
+
+-- every element is a byte
+abbrev pub Bytes : List ℕ → Type 0
+Bytes s = (i : ℕ) → getD s i 0 < 256
 
 -- the number that the k bytes from place `at` on stand for, the lowest first; a byte past the end counts 0
 unfoldable pub littleEndian : ℕ → List ℕ → ℕ → ℕ

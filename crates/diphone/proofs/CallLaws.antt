@@ -3,7 +3,7 @@ use mathlib.Core.Path.{_≡_, refl, sym, ap, _∙_}
 use mathlib.Core.Bool.{Bool, true, false}
 use mathlib.Core.List.{List, [], _∷_, map, map-append}
 use mathlib.Core.Option.{none}
-use Prim.Native.Nat.{ℕ, _*_, _≤_}
+use Prim.Native.Nat.{ℕ, _+_, _*_, _≤_}
 use native.Mathlib.Nat.{zero-mul, suc-mul}
 use native.Mathlib.Omega.{arith}
 use borrow.Author.Tests.{ltb-false, le-ltb}
@@ -14,6 +14,7 @@ use lib.Seq.{take-at, drop-at}
 use Rattle.base.specs.Buffers.{flat}
 use Rattle.base.specs.Lists.{Heads}
 use Rattle.base.proofs.ListLaws.{heads-nil, next-none}
+use Rattle.base.proofs.BoundLaws.{cons}
 use Rattle.voice.specs.Voice.{Voice}
 use Rattle.voice.specs.Extends.{Extends}
 use Rattle.voice.proofs.OpeningLaws.{Opens}
@@ -30,7 +31,7 @@ use Rattle.units.proofs.UnitLaws.{Within}
 use Rattle.marks.proofs.MarkLaws as marks
 use Rattle.excitation.specs.Taken.{Period, taken}
 use Rattle.excitation.proofs.TakenLaws.{taken-append, taken-same}
-use Rattle.excitation.proofs.SizedLaws.{Sized, nil, cons, taken-sized}
+use Rattle.excitation.proofs.SizedLaws.{Sized, taken-sized}
 use Rattle.lpc.specs.declared.ResynthType.{ResynthType}
 use Rattle.lpc.specs.Filter.{Part, cut}
 use Rattle.lpc.specs.State.{periodsBy}
@@ -48,7 +49,7 @@ partOf p = record { row = p .row; bytes = p .bytes }
 cut-filled : (order : ℕ) (ps : List Period) → Sized order ps → cut order (sizesOf ps) (rowsOf ps) (excitationOf ps) ≡ map partOf ps
 unfolding cut sizesOf rowsOf excitationOf flat
 cut-filled order [] s = refl
-cut-filled order (p ∷ ps) (cons l m s) =
+cut-filled order (p ∷ ps) (cons (l, m) s) =
     let rows = flat (λ (p : Period). p .row) ps in
     let bytes = flat (λ (p : Period). p .bytes) ps in
     rw (take-at (p .row) rows order l, drop-at (p .row) rows order l, take-at (p .bytes) bytes (p .size) m, drop-at (p .bytes) bytes (p .size) m)
@@ -58,8 +59,22 @@ cut-filled order (p ∷ ps) (cons l m s) =
 pub rows-length : (order : ℕ) (ps : List Period) → Sized order ps → length (rowsOf ps) ≡ length (sizesOf ps) * order
 unfolding sizesOf rowsOf flat
 rows-length order [] s = sym (zero-mul order)
-rows-length order (p ∷ ps) (cons l m s) =
+rows-length order (p ∷ ps) (cons (l, m) s) =
     length-append (p .row) (rowsOf ps) ∙ simp (l, rows-length order ps s, suc-mul) (omega arith)
+
+-- 'Taken sizes sum to the excitation length'
+abbrev pub total : List ℕ → ℕ
+total [] = 0
+total (n ∷ ns) = n + total ns
+
+sizes-total : (order : ℕ) (ps : List Period) → Sized order ps → total (sizesOf ps) ≡ length (excitationOf ps)
+unfolding sizesOf excitationOf flat
+sizes-total order [] s = refl
+sizes-total order (p ∷ ps) (cons (l, m) s) = rw (sizes-total order ps s, length-append) (omega arith)
+
+pub taken-total : (v : Voice) (s : Sheet) (o : Settings) → total (sizesOf (periodsTaken v s o)) ≡ length (excitationOf (periodsTaken v s o))
+unfolding periodsTaken
+taken-total v s o = sizes-total (v .header .order) (periodsTaken v s o) (taken-sized v (planOf v s o .units) (planOf v s o .marks))
 
 -- the samples of taken periods
 soundOf : ResynthType → Float → Float → List Period → List (List ℕ)
@@ -79,7 +94,7 @@ same-scales t m m′ r r′ ps qs a b c = cc
 -- ---- the same sheet, on a voice that extends another
 
 -- fewer than two segments make an empty plan
-abbrev twoSegments : Bool → Plan → Plan
+abbrev pub twoSegments : Bool → Plan → Plan
 twoSegments t p = elim t [ true ↦ emptyPlan | false ↦ p ]
 
 module _ (v w : Voice) (x : Extends w v) (a : Opens v) (b : Opens w) (s : Sheet) (o : Settings) (found : firstTriedFound v (o .fold) (s .segments) ≡ true) where

@@ -2,3 +2,4 @@
 pub mod PullLaws
 pub mod MachineLaws
 pub mod CallLaws
+pub mod FilledLaws

@@ -1,9 +1,10 @@
--- What a list of pulls wrote: the samples of the first periods, as many as were given, and all of them once a pull says done.
-use mathlib.Core.Path.{_≡_, refl, ap, _∙_}
+-- What a list of pulls wrote: the samples of the first periods, as many as were given, and all of them once a pull says done; and what each pull
+-- of the list answers.
+use mathlib.Core.Path.{_≡_, refl, ap, subst, _∙_}
 use mathlib.Core.List.{List, [], _∷_, _++_}
 use mathlib.Core.Logic.{⊎-elim}
-use Prim.Native.Nat.{ℕ, _+_, _*_, _/_, _≤_, _<_}
-use native.Mathlib.Nat.{eq-or-lt-of-le, zero-add}
+use Prim.Native.Nat.{ℕ, zero, suc, _+_, _*_, _/_, _≤_, _<_}
+use native.Mathlib.Nat.{eq-or-lt-of-le, zero-add, add-zero, add-assoc}
 use native.Mathlib.Numerals.{add-one, one-add}
 use native.Mathlib.Omega.{arith}
 use lib.ListN.{length, getD, take, drop}
@@ -14,13 +15,11 @@ use Rattle.base.proofs.CaseLaws.{by-order}
 use Rattle.base.proofs.BufferLaws.{take-over, flat-append, length-flat}
 use Rattle.base.proofs.ByteLaws.{length-bytesOf}
 use Rattle.refusal.specs.declared.Refusal.{Refusal}
-use Rattle.diphone.specs.declared.Answer.the-variants.{Given, Refused}
-use Rattle.diphone.specs.Machine.{Shown, machine, written, given, SaysDone, there}
-use Rattle.diphone.proofs.PullLaws.{machine-done, machine-short, machine-gives}
-
--- the samples of periods, joined, as bytes
-abbrev pub bytesOfPeriods : List (List ℕ) → List ℕ
-bytesOfPeriods ps = flat (bytesOf 2) (flat (λ (p : List ℕ). p) ps)
+use Rattle.refusal.specs.declared.Refusal.the-variants.{ShortSlice}
+use Rattle.diphone.specs.declared.Answer.{Answer}
+use Rattle.diphone.specs.declared.Answer.the-variants.{Given, Done, Refused}
+use Rattle.diphone.specs.Machine.{Shown, shows, machine, gaveCount, written, bytesOfPeriods, given, SaysDone, there}
+use Rattle.diphone.proofs.PullLaws.{shows-done, shows-short, shows-gives, machine-done, machine-short, machine-gives}
 
 -- where some pull says done, but not the first
 after-refused : {r : Refusal} {d : List ℕ} {os : List Shown} → SaysDone (record { answer = Refused r; slice = d } ∷ os) → SaysDone os
@@ -64,12 +63,60 @@ module _ (ps : List (List ℕ)) where
   pub machine-writes : (ds : List (List ℕ)) → written (machine ps 0 ds) ≡ bytesOfPeriods (take (given (machine ps 0 ds)) ps)
   machine-writes ds = writes ds 0 (omega arith)
 
+  -- ---- each pull of a list
+
+  -- what each answer says of the count and the slice
+  abbrev pub Answered : ℕ → List ℕ → Answer → Type 0
+  Answered k d (Given n) = k < length ps
+  Answered k d Done = k ≡ length ps
+  Answered k d (Refused r) = (r ≡ ShortSlice) × (length d / 2 < length (getD ps k []))
+
+  answered : (k : ℕ) (d : List ℕ) → k ≤ length ps → Answered k d (shows ps k d .answer)
+  answered k d l =
+      ⊎-elim (λ q. rw (shows-done ps k d q) q)
+      (λ m. by-order (length d / 2) (length (getD ps k []))
+      (λ h. rw (shows-short ps k d (λ q. omega arith) h) (refl, h))
+      (λ h. rw (shows-gives ps k d (λ q. omega arith) h) m))
+      (eq-or-lt-of-le l)
+
+  step-within : (k : ℕ) (d : List ℕ) → k ≤ length ps → k + gaveCount (shows ps k d .answer) ≤ length ps
+  step-within k d l = go (shows ps k d .answer) (answered k d l)
+    where
+      go : (a : Answer) → Answered k d a → k + gaveCount a ≤ length ps
+      go (Given n) h = omega arith
+      go Done h = omega arith
+      go (Refused r) h = omega arith
+
+  -- pull i of a list, after what those before it gave
+  pub machine-at : (ds : List (List ℕ)) (k i : ℕ) (o : Shown) → i < length ds → getD (machine ps k ds) i o ≡ shows ps (k + given (take i (machine ps k ds))) (getD ds i [])
+  unfolding given machine
+  machine-at [] k i o h = absurd (omega arith)
+  machine-at (d ∷ ds) k zero o h = rw add-zero
+  machine-at (d ∷ ds) k (suc i) o h = rw (← add-assoc) (machine-at ds (k + gaveCount (shows ps k d .answer)) i o (omega arith))
+
+  -- no more are given than there are, nor by the pulls up to one of them
+  pub machine-within : (ds : List (List ℕ)) (k : ℕ) → k ≤ length ps → k + given (machine ps k ds) ≤ length ps
+  unfolding given machine
+  machine-within [] k l = omega arith
+  machine-within (d ∷ ds) k l = rw (← add-assoc) (machine-within ds (k + gaveCount (shows ps k d .answer)) (step-within k d l))
+
+  pub before-within : (ds : List (List ℕ)) (k i : ℕ) → k ≤ length ps → k + given (take i (machine ps k ds)) ≤ length ps
+  unfolding given machine
+  before-within ds k zero l = omega arith
+  before-within [] k (suc i) l = omega arith
+  before-within (d ∷ ds) k (suc i) l = rw (← add-assoc) (before-within ds (k + gaveCount (shows ps k d .answer)) i (step-within k d l))
+
+  -- after k periods were given: done exactly where these are all, and refused only for a short slice
+  pub shows-done-all : (k : ℕ) (d : List ℕ) → k ≤ length ps → shows ps k d .answer ≡ Done → k ≡ length ps
+  shows-done-all k d l e = subst (Answered k d) e (answered k d l)
+
+  pub shows-refused : (k : ℕ) (d : List ℕ) (r : Refusal) → k ≤ length ps → shows ps k d .answer ≡ Refused r → (r ≡ ShortSlice) × (length d / 2 < length (getD ps k []))
+  shows-refused k d r l e = subst (Answered k d) e (answered k d l)
+
   -- ---- done
 
   none-left : (ds : List (List ℕ)) → given (machine ps (length ps) ds) ≡ 0
-  unfolding given machine
-  none-left [] = refl
-  none-left (d ∷ ds) = rw (machine-done ps (length ps) d ds refl, zero-add) (none-left ds)
+  none-left ds = let w = machine-within ds (length ps) (omega arith) in omega arith
 
   -- a list in which some pull says done gave all the periods that were left
   abbrev GivesAll : List (List ℕ) → ℕ → Type 0

@@ -4,7 +4,7 @@ use mathlib.Core.Bool.{Bool, true, false, _||_}
 use mathlib.Core.List.{List, [], _∷_}
 use mathlib.Core.Logic.{⊎-elim}
 use Prim.Native.Nat.{ℕ, zero, suc, _+_, _*_, _/_, _≤_, _<_}
-use native.Mathlib.Nat.{eq-or-lt-of-le, suc-mul, zero-mul, mul-le-mul-right}
+use native.Mathlib.Nat.{eq-or-lt-of-le, add-zero, suc-mul, zero-mul, mul-le-mul-right}
 use native.Mathlib.Numerals.{add-one}
 use native.Mathlib.Omega.{arith}
 use borrow.Author.Tests.{eq-eqb, ne-eqb, lt-ltb, le-ltb, le-leb}
@@ -26,7 +26,7 @@ use Rattle.lpc.proofs.FilterLaws.{length-cut, length-by}
 use Rattle.lpc.proofs.StateLaws.{kept, Continues, continues-low, fresh-continues, Steps, steps}
 use Rattle.diphone.specs.declared.Answer.the-variants.{Given, Done, Refused}
 use Rattle.diphone.specs.Pull.{Lent, allGiven, possible, nextPart, leaves, pullOf}
-use Rattle.diphone.specs.Machine.{Shown, pulls, machine}
+use Rattle.diphone.specs.Machine.{Shown, pulls, shows, machine}
 
 -- ---- the cases of a pull, and of the machine
 
@@ -45,20 +45,35 @@ module _ (s : FilterState) (l : Lent) (d : List ℕ) (p : possible s l ≡ true)
     unfolding pullOf
     pull-gives h = rw (p, ne-eqb _ _ q, le-ltb _ _ h)
 
-module _ (ps : List (List ℕ)) (k : ℕ) (d : List ℕ) (ds : List (List ℕ)) where
-  pub machine-done : k ≡ length ps → machine ps k (d ∷ ds) ≡ record { answer = Done; slice = d } ∷ machine ps k ds
-  unfolding machine
-  machine-done q = rw (eq-eqb k (length ps) q)
+-- what the machine shows of one pull
+module _ (ps : List (List ℕ)) (k : ℕ) (d : List ℕ) where
+  pub shows-done : k ≡ length ps → shows ps k d ≡ record { answer = Done; slice = d }
+  unfolding shows
+  shows-done q = rw (eq-eqb k (length ps) q)
 
   module _ (q : k ≡ length ps → ⊥) where
-    pub machine-short : length d / 2 < length (getD ps k []) → machine ps k (d ∷ ds) ≡ record { answer = Refused ShortSlice; slice = d } ∷ machine ps k ds
-    unfolding machine
-    machine-short h = rw (ne-eqb k (length ps) q, lt-ltb (length d / 2) (length (getD ps k [])) h)
+    pub shows-short : length d / 2 < length (getD ps k []) → shows ps k d ≡ record { answer = Refused ShortSlice; slice = d }
+    unfolding shows
+    shows-short h = rw (ne-eqb k (length ps) q, lt-ltb (length d / 2) (length (getD ps k [])) h)
 
-    pub machine-gives : length (getD ps k []) ≤ length d / 2
+    pub shows-gives : length (getD ps k []) ≤ length d / 2 → shows ps k d ≡ record { answer = Given (length (getD ps k [])); slice = over (flat (bytesOf 2) (getD ps k [])) d }
+    unfolding shows
+    shows-gives h = rw (ne-eqb k (length ps) q, le-ltb (length d / 2) (length (getD ps k [])) h)
+
+  -- and of the pulls after it
+  module _ (ds : List (List ℕ)) where
+    pub machine-done : k ≡ length ps → machine ps k (d ∷ ds) ≡ record { answer = Done; slice = d } ∷ machine ps k ds
+    unfolding machine
+    machine-done q = rw (shows-done q, add-zero)
+
+    pub machine-short : (k ≡ length ps → ⊥) → length d / 2 < length (getD ps k []) → machine ps k (d ∷ ds) ≡ record { answer = Refused ShortSlice; slice = d } ∷ machine ps k ds
+    unfolding machine
+    machine-short q h = rw (shows-short q h, add-zero)
+
+    pub machine-gives : (k ≡ length ps → ⊥) → length (getD ps k []) ≤ length d / 2
         → machine ps k (d ∷ ds) ≡ record { answer = Given (length (getD ps k [])); slice = over (flat (bytesOf 2) (getD ps k [])) d } ∷ machine ps (k + 1) ds
     unfolding machine
-    machine-gives h = rw (ne-eqb k (length ps) q, le-ltb (length d / 2) (length (getD ps k [])) h)
+    machine-gives q h = rw (shows-gives q h)
 
 -- ---- a state between two pulls of a call with the periods ps
 

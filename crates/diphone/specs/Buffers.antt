@@ -18,9 +18,9 @@ use Rattle.refusal.specs.Number.{numberOf}
 use Rattle.voice.specs.declared.Codec.{Codec}
 use Rattle.voice.specs.declared.Codec.the-variants.{Ulaw, G721}
 use Rattle.voice.specs.Header.{codecOf}
-use Rattle.voice.specs.Voice.{Voice, voiceOf, sortedIndex}
+use Rattle.voice.specs.Voice.{Voice, voiceOf}
 use Rattle.voice.specs.Periods.{residualOf, longest}
-use Rattle.voice.specs.Opening.{openingRefusal}
+use Rattle.voice.specs.Opening.{openingRefusal, indexFits, indexBytes}
 use Rattle.sheet.specs.Sheet.{Sheet, sheetOf, sheetRefusal}
 use Rattle.excitation.specs.Source.{decodedBy}
 use Rattle.excitation.specs.Taken.{Period}
@@ -55,7 +55,7 @@ unfoldable pub filled : Voice → Sheet → Settings → Buffers
 filled v s o =
     let ps = periodsTaken v s o in
     record {
-      index = flat (bytesOf 8) (sortedIndex v);
+      index = indexBytes v;
       marks = flat (bytesOf 4) (planOf v s o .marks);
       sizes = flat (bytesOf 4) (sizesOf ps);
       rows = flat (bytesOf 2) (rowsOf ps);
@@ -78,7 +78,7 @@ unfoldable pub fits : Voice → Sheet → Settings → Buffers → Bool
 fits v s o b =
     let ps = periodsTaken v s o in
     every
-    (leb (length (sortedIndex v)) (length (b .index) / 8)
+    (indexFits v (length (b .index))
     ∷ leb (length (planOf v s o .marks)) (length (b .marks) / 4)
     ∷ leb (length (sizesOf ps)) (length (b .sizes) / 4)
     ∷ leb (length (rowsOf ps)) (length (b .rows) / 2)

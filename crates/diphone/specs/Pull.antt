@@ -8,7 +8,7 @@ use lib.ListN.{length, getD, take, drop}
 use Rattle.base.specs.Choice.{pick}
 use Rattle.base.specs.Lists.{every, part}
 use Rattle.base.specs.Buffers.{over, flat}
-use Rattle.base.specs.Bytes.{bytesOf}
+use Rattle.base.specs.Bytes.{bytesOf, elements}
 use Rattle.refusal.specs.declared.Refusal.the-variants.{ShortSlice, BadState}
 use Rattle.refusal.specs.Number.{numberOf}
 use Rattle.voice.specs.Header.{inScale}
@@ -25,12 +25,16 @@ pub record Lent : Type 0 where
   pub rows : List ℕ
   pub excitation : List ℕ
 
+-- what the bytes of the three lent slices say; an element of sizes has 4, of rows 2, of excitation 1
+unfoldable pub lentOf : List ℕ → List ℕ → List ℕ → Lent
+lentOf sizes rows excitation = record { sizes = elements 4 sizes; rows = elements 2 rows; excitation = excitation }
+
 -- all periods were given
 abbrev pub allGiven : FilterState → Lent → Bool
 allGiven s l = eqb (s .period) (length (l .sizes))
 
 -- 'A state is impossible if its order is above 32, its ring place above the order, its period or sample place past the sizes or the residual, or a
--- scale outside the header's limits'; and where there is a next period, the coefficients do not end before its row does
+-- scale outside the header's limits' (the residual is the excitation lent); and where there is a next period, the coefficients do not end before its row does
 unfoldable pub possible : FilterState → Lent → Bool
 possible s l =
     every

@@ -1,8 +1,8 @@
--- A taken period has a row of the order, and as many bytes as its size says.
+-- What every taken period is: it has a row of the order, and as many bytes as its size says; the row's values have 16 bits, and the size 32.
 use mathlib.Core.Path.{_≡_, refl}
 use mathlib.Core.Bool.{Bool, true, false}
-use mathlib.Core.List.{List, [], _∷_, _++_}
-use Prim.Native.Nat.{ℕ, _+_, _-_, _*_, _/_, _≤_, _<_}
+use mathlib.Core.List.{List, [], _∷_, _++_, map}
+use Prim.Native.Nat.{ℕ, _+_, _-_, _*_, _/_, _^_, _≤_, _<_}
 use native.Mathlib.Omega.{arith}
 use borrow.Author.Tests.{ltb-true, ltb-false}
 use lib.Dec.{leb, ltb}
@@ -11,23 +11,55 @@ use lib.Ieee.{Float, fin}
 use lib.ListN.{length, replicate, length-append, length-take, length-drop, length-replicate}
 use Rattle.base.specs.Choice.{pick}
 use Rattle.base.specs.Lists.{part}
-use Rattle.base.specs.Bytes.{u16At}
+use Rattle.base.specs.Buffers.{flat}
+use Rattle.base.specs.Bytes.{Bytes, u16At}
+use Rattle.base.proofs.BoundLaws.{Each, nil, cons, each-all, each-append, Below, below-map, below-flat}
 use Rattle.base.proofs.BufferLaws.{length-upto}
 use Rattle.voice.specs.Voice.{Voice}
 use Rattle.voice.specs.Periods.{rowOf}
+use Rattle.voice.proofs.LowLaws.{row-low}
 use Rattle.units.specs.declared.Unit.{Unit}
+use Rattle.marks.proofs.LimitLaws.{Low}
 use Rattle.excitation.specs.Source.{sourceOf, centred}
 use Rattle.excitation.specs.Nearest.{nearestPeriod, paceOf, placeAfterSize}
-use Rattle.excitation.specs.Taken.{Period, periodOf, takeUnit, takenFrom, taken}
+use Rattle.excitation.specs.Taken.{Period, periodOf, Taking, takeUnit, takenFrom, taken}
 use Rattle.excitation.proofs.TakenLaws.{takeMark, twoMarks}
 
-pub data Sized (order : ℕ) : List Period → Type 0 where
-  nil : Sized order []
-  cons : {p : Period} {ps : List Period} → length (p .row) ≡ order → length (p .bytes) ≡ p .size → Sized order ps → Sized order (p ∷ ps)
+-- ---- in general, from what every mark is
 
-sized-append : (order : ℕ) (ps qs : List Period) → Sized order ps → Sized order qs → Sized order (ps ++ qs)
-sized-append order [] qs a b = b
-sized-append order (p ∷ ps) qs (cons l m a) b = cons l m (sized-append order ps qs a b)
+module _ (v : Voice) (Q : ℕ → Type 0) (P : Period → Type 0) (so : (m mark p : ℕ) → Q m → P (periodOf v (m - mark) p)) where
+  abbrev Keeps : Taking → Type 0
+  Keeps t = Each P (t .periods) × Each Q (t .left)
+
+  unit-each : (u : Unit) (pace place : Float) (mark : ℕ) (ms : List ℕ) → Each Q ms → Keeps (takeUnit v u pace place mark ms)
+  unfolding takeUnit
+  unit-each u pace place mark [] nil = (nil, nil)
+  unit-each u pace place mark (m ∷ ms) (cons q e) = by (leb m (u .«target_end»)) (unit-each u pace (placeAfterSize place pace (m - mark)) m ms e)
+    where
+      by : (t : Bool) → Keeps (takeUnit v u pace (placeAfterSize place pace (m - mark)) m ms) → Keeps (takeMark v u pace place mark m ms t)
+      by true k = (cons (so m mark (nearestPeriod v u place) q) (k .0), k .1)
+      by false k = (nil, cons q e)
+
+  from-each : (endBefore mark : ℕ) (us : List Unit) (ms : List ℕ) → Each Q ms → Each P (takenFrom v endBefore mark us ms)
+  unfolding takenFrom
+  from-each endBefore mark [] ms e = nil
+  from-each endBefore mark (u ∷ us) ms e =
+      let r = takeUnit v u (paceOf v u endBefore) (fin false 0 (pos 0)) mark ms in
+      let a = unit-each u (paceOf v u endBefore) (fin false 0 (pos 0)) mark ms e in
+      each-append P (r .periods) _ (a .0) (from-each (u .«target_end») (r .mark) us (r .left) (a .1))
+
+  taken-each : (us : List Unit) (ms : List ℕ) → Each Q ms → Each P (taken v us ms)
+  unfolding taken
+  taken-each us ms e = by (ltb (length ms) 2)
+    where
+      by : (t : Bool) → Each P (twoMarks t (takenFrom v 0 0 us ms))
+      by true = nil
+      by false = from-each 0 0 us ms e
+
+taken-all : (v : Voice) (P : Period → Type 0) → ((size p : ℕ) → P (periodOf v size p)) → (us : List Unit) (ms : List ℕ) → Each P (taken v us ms)
+taken-all v P so us ms = taken-each v (λ m. m ≡ m) P (λ m mark p q. so (m - mark) p) us ms (each-all (λ m. m ≡ m) (λ m. refl) ms)
+
+-- ---- lengths
 
 length-centred : (n : ℕ) (s : List ℕ) → length (centred n s) ≡ n
 unfolding centred
@@ -42,27 +74,23 @@ length-row : (v : Voice) (p : ℕ) → length (rowOf v p) ≡ v .header .order
 unfolding rowOf
 length-row v p = length-upto (λ k. u16At (v .lpc) (p * v .header .order + k)) (v .header .order)
 
-unit-sized : (v : Voice) (u : Unit) (pace place : Float) (mark : ℕ) (ms : List ℕ) → Sized (v .header .order) (takeUnit v u pace place mark ms .periods)
-unfolding takeUnit periodOf
-unit-sized v u pace place mark [] = nil
-unit-sized v u pace place mark (m ∷ ms) = by (leb m (u .«target_end»)) (unit-sized v u pace (placeAfterSize place pace (m - mark)) m ms)
-  where
-    by : (t : Bool) → Sized (v .header .order) (takeUnit v u pace (placeAfterSize place pace (m - mark)) m ms .periods)
-        → Sized (v .header .order) (takeMark v u pace place mark m ms t .periods)
-    by true ih = cons (length-row v (nearestPeriod v u place)) (length-centred (m - mark) (sourceOf v (nearestPeriod v u place))) ih
-    by false ih = nil
+abbrev HasSize : ℕ → Period → Type 0
+HasSize order p = (length (p .row) ≡ order) × (length (p .bytes) ≡ p .size)
 
-from-sized : (v : Voice) (endBefore mark : ℕ) (us : List Unit) (ms : List ℕ) → Sized (v .header .order) (takenFrom v endBefore mark us ms)
-unfolding takenFrom
-from-sized v endBefore mark [] ms = nil
-from-sized v endBefore mark (u ∷ us) ms =
-    let r = takeUnit v u (paceOf v u endBefore) (fin false 0 (pos 0)) mark ms in
-    sized-append (v .header .order) (r .periods) _ (unit-sized v u (paceOf v u endBefore) (fin false 0 (pos 0)) mark ms) (from-sized v (u .«target_end») (r .mark) us (r .left))
+abbrev pub Sized : ℕ → List Period → Type 0
+Sized order ps = Each (HasSize order) ps
 
 pub taken-sized : (v : Voice) (us : List Unit) (ms : List ℕ) → Sized (v .header .order) (taken v us ms)
-unfolding taken
-taken-sized v us ms = by (ltb (length ms) 2)
-  where
-    by : (t : Bool) → Sized (v .header .order) (twoMarks t (takenFrom v 0 0 us ms))
-    by true = nil
-    by false = from-sized v 0 0 us ms
+unfolding periodOf
+taken-sized v us ms = taken-all v (HasSize (v .header .order)) (λ size p. (length-row v p, length-centred size (sourceOf v p))) us ms
+
+-- ---- bounds
+
+pub taken-sizes : (v : Voice) (us : List Unit) (ms : List ℕ) → Each Low ms → Below (2 ^ 32) (map (λ (p : Period). p .size) (taken v us ms))
+unfolding periodOf
+taken-sizes v us ms e =
+    below-map (2 ^ 32) (omega arith) (λ (p : Period). p .size) (taken v us ms) (taken-each v Low (λ (p : Period). p .size < 2 ^ 32) (λ m mark p l. omega arith) us ms e)
+
+pub taken-rows : (v : Voice) (us : List Unit) (ms : List ℕ) → Bytes (v .lpc) → Below 65536 (flat (λ (p : Period). p .row) (taken v us ms))
+unfolding periodOf
+taken-rows v us ms h = below-flat 65536 (omega arith) (λ (p : Period). p .row) (taken v us ms) (taken-all v (λ (p : Period). Below 65536 (p .row)) (λ size p. row-low v h p) us ms)

@@ -15,10 +15,10 @@ use Rattle.base.proofs.ListLaws.{heads-nil, heads-after, heads-cons, heads-long
 use Rattle.float.specs.Distance.{nearer}
 use Rattle.voice.specs.Voice.{Voice}
 use Rattle.voice.specs.Periods.{samplesOf}
-use Rattle.voice.proofs.PeriodLaws.{Agree, samplesIn-same}
+use Rattle.voice.proofs.PeriodLaws.{Agree, samplesFrom-same}
 use Rattle.units.specs.declared.Unit.{Unit}
 use Rattle.units.proofs.UnitLaws.{Within, cons}
-use Rattle.marks.specs.NaturalMarks.{periodsIn}
+use Rattle.marks.specs.NaturalMarks.{periodCount}
 use Rattle.excitation.specs.Source.{sourceOf}
 use Rattle.excitation.specs.Nearest.{f32Of, nearestFrom, nearestPeriod, paceOf, placeAfterSize}
 use Rattle.excitation.specs.Taken.{Period, periodOf, Taking, withPeriod, takeUnit, takenFrom, taken}
@@ -96,15 +96,15 @@ module _ (v w : Voice) (n : ℕ) (g : Agree v w n) (some : 1 ≤ n) where
   module _ (u : Unit) (l : u .«first_period» ≤ u .«last_period») (m : u .«last_period» ≤ n) where
     unit-nearest : (place : Float) → nearestPeriod w u place ≡ nearestPeriod v u place
     unfolding nearestPeriod
-    unit-nearest place = nearest-same place (fin false 0 (pos 0)) (u .«first_period») (periodsIn u) (omega arith)
+    unit-nearest place = nearest-same place (fin false 0 (pos 0)) (u .«first_period») (periodCount u) (omega arith)
 
     unit-low : (place : Float) → nearestPeriod v u place < n
     unfolding nearestPeriod
-    unit-low place = nearest-low place (fin false 0 (pos 0)) (u .«first_period») (periodsIn u) (omega arith)
+    unit-low place = nearest-low place (fin false 0 (pos 0)) (u .«first_period») (periodCount u) (omega arith)
 
     pace-same : (endBefore : ℕ) → paceOf w u endBefore ≡ paceOf v u endBefore
     unfolding paceOf
-    pace-same endBefore = let a = samplesIn-same v w n g (u .«first_period») (periodsIn u) (omega arith) in rw a
+    pace-same endBefore = let a = samplesFrom-same v w n g (u .«first_period») (periodCount u) (omega arith) in rw a
 
     unit-same : (pace place : Float) (mark : ℕ) (ms : List ℕ) → takeUnit w u pace place mark ms ≡ takeUnit v u pace place mark ms
     unfolding takeUnit

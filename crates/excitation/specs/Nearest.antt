@@ -6,9 +6,9 @@ use lib.Ieee.{Float, fin, binary32, add, mul, div, ofInt}
 use Rattle.base.specs.Choice.{pick}
 use Rattle.float.specs.Distance.{nearer}
 use Rattle.voice.specs.Voice.{Voice}
-use Rattle.voice.specs.Periods.{samplesOf, samplesIn}
+use Rattle.voice.specs.Periods.{samplesOf, samplesFrom}
 use Rattle.units.specs.declared.Unit.{Unit}
-use Rattle.marks.specs.NaturalMarks.{periodsIn}
+use Rattle.marks.specs.NaturalMarks.{periodCount}
 
 -- a whole number as an f32
 abbrev pub f32Of : ℕ → Float
@@ -23,11 +23,11 @@ nearestFrom v place start p (suc n) =
     pick (nearer place start end) p (nearestFrom v place end (suc p) n)
 
 unfoldable pub nearestPeriod : Voice → Unit → Float → ℕ
-nearestPeriod v u place = nearestFrom v place (fin false 0 (pos 0)) (u .«first_period») (periodsIn u)
+nearestPeriod v u place = nearestFrom v place (fin false 0 (pos 0)) (u .«first_period») (periodCount u)
 
 -- 'unit samples / span; span is the target end less that of the unit before (0 at first), at least 1'
 unfoldable pub paceOf : Voice → Unit → ℕ → Float
-paceOf v u endBefore = div binary32 (f32Of (samplesIn v (u .«first_period») (periodsIn u))) (f32Of (max (u .«target_end» - endBefore) 1))
+paceOf v u endBefore = div binary32 (f32Of (samplesFrom v (u .«first_period») (periodCount u))) (f32Of (max (u .«target_end» - endBefore) 1))
 
 -- 'the place in a unit .. after each taken size grows by size × (unit samples / span)'
 unfoldable pub placeAfterSize : Float → Float → ℕ → Float

@@ -1,44 +1,46 @@
 -- Demand 3, over the definitions.
 use mathlib.Core.Path.{_≡_, sym, ap, subst, _∙_}
-use mathlib.Core.List.{List}
+use mathlib.Core.List.{List, []}
 use mathlib.Core.Option.{none}
-use Prim.Native.Nat.{ℕ, _*_}
-use native.Mathlib.Nat.{le-of-eq}
-use lib.ListN.{length, take}
+use Prim.Native.Nat.{ℕ, _*_, _/_, _≤_, _<_}
+use native.Mathlib.Nat.{le-of-eq, zero-add}
+use native.Mathlib.Omega.{arith}
+use lib.ListN.{length, getD, take}
 use Rattle.base.specs.Lists.{Heads}
 use Rattle.base.specs.Buffers.{flat}
-use Rattle.base.specs.Bytes.{bytesOf}
+use Rattle.base.specs.Bytes.{elements}
 use Rattle.base.proofs.ListLaws.{next-none, heads-by}
 use Rattle.base.proofs.BufferLaws.{flat-append}
-use Rattle.voice.specs.Opening.{openingRefusal}
+use Rattle.base.proofs.BoundLaws.{Below, each-take}
+use Rattle.refusal.specs.declared.Refusal.{Refusal}
+use Rattle.refusal.specs.declared.Refusal.the-variants.{ShortSlice}
 use Rattle.voice.proofs.OpeningLaws.{Opens, opens}
-use Rattle.sheet.specs.Sheet.{Sheet, sheetRefusal}
+use Rattle.sheet.specs.Sheet.{Sheet}
 use Rattle.sheet.proofs.SheetLaws.{sheet-refers}
 use Rattle.excitation.proofs.SizedLaws.{taken-sized}
 use Rattle.lpc.specs.declared.FilterState.{FilterState}
 use Rattle.diphone.specs.declared.Settings.{Settings}
 use Rattle.diphone.specs.Call.{planOf, periodsTaken, sizesOf, rowsOf, periodsOf, samplesOfCall}
 use Rattle.diphone.specs.Buffers.{callRefusal, checkRefusal, plannedOf, freshOf}
-use Rattle.diphone.specs.Machine.{pulls, machine, written, given, SaysDone}
-use Rattle.diphone.proofs.PullLaws.{fresh-machine}
-use Rattle.diphone.proofs.MachineLaws.{bytesOfPeriods, machine-writes, machine-done-all}
+use Rattle.diphone.specs.declared.Answer.the-variants.{Done, Refused}
+use Rattle.diphone.specs.Machine.{Shown, pulls, shows, machine, written, samplesWritten, bytesOfPeriods, given, SaysDone}
+use Rattle.diphone.proofs.PullLaws.{shows-done, fresh-machine}
+use Rattle.diphone.proofs.MachineLaws.{machine-writes, machine-at, machine-within, before-within, shows-done-all, shows-refused, machine-done-all}
 use Rattle.diphone.proofs.CallLaws.{periods-ahead, periods-equal, rows-length}
-use Rattle.law.specs.SpokenCall.{SpokenCall, voiceIn, sheetIn, periodsIn, samplesIn, lentAfter, pullsAfter, Longer, BeginsWith}
+use Rattle.diphone.proofs.FilledLaws.{call-planned, periods-low, periods-back}
+use Rattle.law.proofs.LentLaws.{lentTaken, lent-filled}
+use Rattle.law.specs.SpokenCall.{SpokenCall, voiceIn, sheetIn, periodsIn, samplesIn, pullsAfter, Longer, BeginsWith}
+use Rattle.law.specs.Demand3.{Demand3, answerAt, givenBefore}
 
 -- ---- what a spoken call shows
 
 module _ (c : SpokenCall) where
-  checked : checkRefusal (c .voiceFile) (c .sheetFile) (c .settings) ≡ none
-  unfolding callRefusal
-  checked = next-none _ _ (c .notRefused) .0
-
   opened : Opens (voiceIn c)
-  unfolding checkRefusal
-  opened = opens (c .voiceFile) (next-none _ _ checked .0)
+  unfolding callRefusal checkRefusal
+  opened = opens (c .voiceFile) (next-none _ _ (next-none _ _ (c .notRefused) .0) .0)
 
   planned : planOf (voiceIn c) (sheetIn c) (c .settings) .refusal ≡ none
-  unfolding checkRefusal
-  planned = next-none (sheetRefusal (c .sheetFile)) _ (next-none (openingRefusal (c .voiceFile)) _ checked .1) .1
+  planned = call-planned (c .voiceFile) (c .sheetFile) (c .settings) (c .lent) (c .notRefused)
 
   fresh : plannedOf (c .voiceFile) (c .sheetFile) (c .settings) (c .lent) .state ≡ freshOf (voiceIn c) (c .settings)
   unfolding plannedOf
@@ -58,23 +60,32 @@ flat-heads enc {s} h = heads-by (flat enc (h .more)) (ap (flat enc) (h .whole) �
 -- 'For every list of pulls in a spoken call, refused ones included and whatever sample slices they are lent': which of the three answers each gives, and
 -- every byte of its slice afterwards, are the plain machine's.
 pub whole-lists : (c : SpokenCall) (ds : List (List ℕ)) → pullsAfter c ds ≡ machine (periodsIn c) 0 ds
-unfolding pullsAfter lentAfter freshOf periodsOf
+unfolding pullsAfter freshOf periodsOf
 whole-lists c ds =
     let v = voiceIn c in
     let ps = periodsTaken v (sheetIn c) (c .settings) in
     let o = opened c in
     let r : length (rowsOf ps) ≡ length (sizesOf ps) * v .header .order = rows-taken c in
-    ap (λ (s : FilterState). pulls s (lentAfter c) ds) (fresh c)
-    ∙ fresh-machine (c .settings .filter) (v .header .order) (v .header .«coeff_min») (v .header .«coeff_range») (lentAfter c) ds (o .orderLow) (o .leastIn) (o .rangeIn) (le-of-eq (sym r))
+    rw (lent-filled c)
+    (ap (λ (s : FilterState). pulls s (lentTaken c) ds) (fresh c)
+    ∙ fresh-machine (c .settings .filter) (v .header .order) (v .header .«coeff_min») (v .header .«coeff_range») (lentTaken c) ds (o .orderLow) (o .leastIn) (o .rangeIn) (le-of-eq (sym r)))
 
 -- 'what they wrote, joined in order, is the samples of as many periods as they gave, from the first on'
 pub whole-lists-written : (c : SpokenCall) (ds : List (List ℕ)) → written (pullsAfter c ds) ≡ bytesOfPeriods (take (given (pullsAfter c ds)) (periodsIn c))
 whole-lists-written c ds = let e = whole-lists c ds in rw e (machine-writes (periodsIn c) ds)
 
+pub whole-lists-samples : (c : SpokenCall) (ds : List (List ℕ))
+    → samplesWritten (pullsAfter c ds) ≡ flat (λ (p : List ℕ). p) (take (given (pullsAfter c ds)) (periodsIn c))
+whole-lists-samples c ds =
+    let n = given (pullsAfter c ds) in
+    ap (elements 2) (whole-lists-written c ds) ∙ periods-back (take n (periodsIn c)) (each-take (Below 65536) n (periodsIn c) (periods-low (voiceIn c) (sheetIn c) (c .settings)))
+
 -- once a pull says done, all samples of the call were written
-pub whole-lists-done : (c : SpokenCall) (ds : List (List ℕ)) → SaysDone (pullsAfter c ds) → written (pullsAfter c ds) ≡ flat (bytesOf 2) (samplesIn c)
+pub whole-lists-done : (c : SpokenCall) (ds : List (List ℕ)) → SaysDone (pullsAfter c ds) → samplesWritten (pullsAfter c ds) ≡ samplesIn c
 unfolding samplesOfCall
-whole-lists-done c ds s = let e = whole-lists c ds in rw e (machine-done-all (periodsIn c) ds (rw e at s))
+whole-lists-done c ds s =
+    let e = whole-lists c ds in
+    ap (elements 2) (rw e (machine-done-all (periodsIn c) ds (rw e at s))) ∙ periods-back (periodsIn c) (periods-low (voiceIn c) (sheetIn c) (c .settings))
 
 -- ---- a longer sheet on an extended voice
 
@@ -100,15 +111,51 @@ extension-samples c d l =
 
 -- ---- demand 3
 
--- 'whatever slices the pulls of either are lent, the samples that the first has written when it says done begin those that the second has written at its
--- own done, and are all of them if the sheets are equal'
-pub demand3 : (c d : SpokenCall) → Longer d c → (ds es : List (List ℕ)) → SaysDone (pullsAfter c ds) → SaysDone (pullsAfter d es)
-    → BeginsWith d c (written (pullsAfter d es)) (written (pullsAfter c ds))
-demand3 c d l ds es s t =
+-- each pull of a list
+module _ (c : SpokenCall) (ds : List (List ℕ)) (i : ℕ) (h : i < length ds) where
+  at-pull : answerAt c ds i ≡ shows (periodsIn c) (givenBefore c ds i) (getD ds i []) .answer
+  at-pull =
+      let ps = periodsIn c in
+      subst (λ (os : List Shown). getD os i (record { answer = Done; slice = [] }) .answer ≡ shows ps (given (take i os)) (getD ds i []) .answer) (sym (whole-lists c ds))
+      (ap (λ (o : Shown). o .answer) (machine-at ps ds 0 i (record { answer = Done; slice = [] }) h)
+      ∙ ap (λ (n : ℕ). shows ps n (getD ds i []) .answer) (zero-add (given (take i (machine ps 0 ds)))))
+
+  low : givenBefore c ds i ≤ length (periodsIn c)
+  low =
+      subst (λ (os : List Shown). given (take i os) ≤ length (periodsIn c)) (sym (whole-lists c ds))
+      (let w = before-within (periodsIn c) ds 0 i (omega arith) in omega arith)
+
+  pull-done : answerAt c ds i ≡ Done → givenBefore c ds i ≡ length (periodsIn c)
+  pull-done e = shows-done-all (periodsIn c) (givenBefore c ds i) (getD ds i []) low (sym at-pull ∙ e)
+
+  pull-all : givenBefore c ds i ≡ length (periodsIn c) → answerAt c ds i ≡ Done
+  pull-all q = at-pull ∙ ap (λ (o : Shown). o .answer) (shows-done (periodsIn c) (givenBefore c ds i) (getD ds i []) q)
+
+  pull-refused : (r : Refusal) → answerAt c ds i ≡ Refused r → (r ≡ ShortSlice) × (length (getD ds i []) / 2 < length (getD (periodsIn c) (givenBefore c ds i) []))
+  pull-refused r e = shows-refused (periodsIn c) (givenBefore c ds i) (getD ds i []) r low (sym at-pull ∙ e)
+
+begun : (c d : SpokenCall) → Longer d c → (ds es : List (List ℕ)) → SaysDone (pullsAfter c ds) → SaysDone (pullsAfter d es)
+    → BeginsWith d c (samplesWritten (pullsAfter d es)) (samplesWritten (pullsAfter c ds))
+begun c d l ds es s t =
     let x = extension-samples c d l in
     let a = whole-lists-done c ds s in
     let b = whole-lists-done d es t in
+    record { heads = rw (a, b) (x .heads); equal = λ e. b ∙ x .equal e ∙ sym a }
+
+pub demand3 : Demand3
+demand3 =
     record {
-      heads = rw (a, b) (flat-heads (bytesOf 2) (x .heads));
-      equal = λ e. b ∙ ap (flat (bytesOf 2)) (x .equal e) ∙ sym a;
+      wholeLists = λ c ds.
+          record {
+            machines = whole-lists c ds;
+            wrote = whole-lists-samples c ds;
+            bytes = whole-lists-written c ds;
+            within =
+                subst (λ (os : List Shown). given os ≤ length (periodsIn c)) (sym (whole-lists c ds))
+                (let w = machine-within (periodsIn c) ds 0 (omega arith) in omega arith);
+            done = pull-done c ds;
+            doneThen = pull-all c ds;
+            refused = pull-refused c ds;
+          };
+      longer = begun;
     }

@@ -1,3 +1,4 @@
--- Demand 3, and document 01's proved examples.
+-- Demand 3, what a spoken call's pulls are lent, and document 01's proved examples.
+pub mod LentLaws
 pub mod Demand3
 pub mod Examples

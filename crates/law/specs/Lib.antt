@@ -1,2 +1,4 @@
 -- The root of law's definitions.
 pub mod SpokenCall
+pub mod Demand3
+pub mod ProvedExamples

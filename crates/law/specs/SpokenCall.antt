@@ -3,25 +3,28 @@ use mathlib.Core.Path.{_≡_}
 use mathlib.Core.Bool.{true}
 use mathlib.Core.List.{List}
 use mathlib.Core.Option.{none}
-use Prim.Native.Nat.{ℕ}
+use Prim.Native.Nat.{ℕ, _*_}
+use lib.ListN.{take}
 use Rattle.base.specs.Lists.{Heads}
+use Rattle.base.specs.Bytes.{Bytes}
 use Rattle.voice.specs.Voice.{Voice, voiceOf}
 use Rattle.voice.specs.Extends.{Extends}
 use Rattle.sheet.specs.Sheet.{Sheet, sheetOf}
 use Rattle.sheet.specs.Begins.{Begins}
 use Rattle.units.specs.Selecting.{firstTriedFound}
 use Rattle.diphone.specs.declared.Settings.{Settings}
-use Rattle.diphone.specs.Call.{periodsTaken, sizesOf, rowsOf, excitationOf, periodsOf, samplesOfCall}
-use Rattle.diphone.specs.Buffers.{Buffers, callRefusal, plannedOf}
-use Rattle.diphone.specs.Pull.{Lent}
+use Rattle.diphone.specs.Call.{periodsOf, samplesOfCall}
+use Rattle.diphone.specs.Buffers.{Buffers, callRefusal, summaryOf, plannedOf, buffersAfter}
+use Rattle.diphone.specs.Pull.{Lent, lentOf}
 use Rattle.diphone.specs.Machine.{Shown, pulls}
 
--- the voice file and the sheet, the settings, the buffers as they were lent, and that the call was not refused
+-- the voice file, of bytes, and the sheet, the settings, the buffers as they were lent, and that the call was not refused
 pub record SpokenCall : Type 0 where
   pub voiceFile : List ℕ
   pub sheetFile : List ℕ
   pub settings : Settings
   pub lent : Buffers
+  pub bytes : Bytes voiceFile
   pub notRefused : callRefusal voiceFile sheetFile settings lent ≡ none
 
 abbrev pub voiceIn : SpokenCall → Voice
@@ -40,8 +43,9 @@ samplesIn c = samplesOfCall (voiceIn c) (sheetIn c) (c .settings)
 -- 'All are lent the sizes, rows and excitation just as far as the call filled them, unwritten meanwhile'
 unfoldable pub lentAfter : SpokenCall → Lent
 lentAfter c =
-    let ps = periodsTaken (voiceIn c) (sheetIn c) (c .settings) in
-    record { sizes = sizesOf ps; rows = rowsOf ps; excitation = excitationOf ps }
+    let m = summaryOf (voiceIn c) (sheetIn c) (c .settings) in
+    let b = buffersAfter (c .voiceFile) (c .sheetFile) (c .settings) (c .lent) in
+    lentOf (take (4 * m .periods) (b .sizes)) (take (2 * (m .periods * m .order)) (b .rows)) (take (m .samples) (b .excitation))
 
 -- 'The first pull gets the call's fresh filter state, each other the state the last one returned or left', and each 'a sample slice of any length'
 unfoldable pub pullsAfter : SpokenCall → List (List ℕ) → List Shown

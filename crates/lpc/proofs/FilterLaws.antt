@@ -1,18 +1,21 @@
--- Laws of a filter in general: it reads no more of the history than its row is long, and more periods only add to its samples.
+-- Laws of a filter in general: it reads no more of the history than its row is long, more periods only add to its samples, and a sample has 16 bits.
 use mathlib.Core.Path.{_≡_, refl, ap}
 use mathlib.Core.List.{List, [], _∷_, _++_, map}
-use Prim.Native.Nat.{ℕ, suc, _+_, _*_, _%_, _^_, _<_}
+use Prim.Native.Nat.{ℕ, zero, suc, _+_, _*_, _%_, _^_, _<_}
+use native.Mathlib.Nat.{mod-lt}
 use native.Mathlib.Omega.{arith}
 use lib.IntN.{ℤ, pos, _*ℤ_}
 use lib.ListN.{length, length-map}
-use lib.Ieee.{Float, ofInt, binary32}
+use lib.Ieee.{Float, ofInt, toSigned, binary32}
 use Rattle.base.specs.Words.{low}
 use Rattle.base.specs.Lists.{Heads}
 use Rattle.base.proofs.ListLaws.{heads-nil, heads-cons}
+use Rattle.base.proofs.BoundLaws.{Each, nil, cons, Below}
+use Rattle.base.proofs.WordLaws.{low-lt}
 use Rattle.ulaw.specs.Ulaw.{sampleOf}
 use Rattle.lpc.specs.declared.ResynthType.{ResynthType}
 use Rattle.lpc.specs.declared.ResynthType.the-variants.{Fixed, Float as FloatType}
-use Rattle.lpc.specs.Filter.{Filter, Part, cut, outputs, samples, periodsFrom}
+use Rattle.lpc.specs.Filter.{Filter, Part, cut, samples, periodsFrom}
 use Rattle.lpc.specs.Fixed.{scaledBy, rowValue, fixedSum, divided, fixedNext, fixedFilter}
 use Rattle.lpc.specs.Floating.{floatValue, floatSum, floatNext, floatFilter}
 use Rattle.lpc.specs.State.{periodsBy}
@@ -71,9 +74,28 @@ length-by FloatType least range ps = length-periods (floatFilter least range) []
 periods-append : {A : Type 0} (f : Filter A) (h : List A) (ps qs : List Part) → Heads (periodsFrom f h ps) (periodsFrom f h (ps ++ qs))
 unfolding periodsFrom
 periods-append f h [] qs = heads-nil _
-periods-append f h (p ∷ ps) qs = heads-cons _ (periods-append f (outputs f (p .row) h (p .bytes)) ps qs)
+periods-append f h (p ∷ ps) qs = heads-cons _ (periods-append f _ ps qs)
 
 pub by-append : (t : ResynthType) (least range : Float) (ps qs : List Part) → Heads (periodsBy t least range ps) (periodsBy t least range (ps ++ qs))
 unfolding periodsBy
 by-append Fixed least range ps qs = periods-append (fixedFilter least range) [] ps qs
 by-append FloatType least range ps qs = periods-append (floatFilter least range) [] ps qs
+
+-- ---- each sample has 16 bits
+
+module _ {A : Type 0} (f : Filter A) (bounded : (a : A) → f .out a < 65536) where
+  samples-low : (row : List ℕ) (h : List A) (xs : List ℕ) → Below 65536 (samples f row h xs)
+  unfolding samples
+  samples-low row h [] i = omega arith
+  samples-low row h (x ∷ xs) zero = bounded _
+  samples-low row h (x ∷ xs) (suc i) = samples-low row _ xs i
+
+  periods-low : (h : List A) (ps : List Part) → Each (Below 65536) (periodsFrom f h ps)
+  unfolding periodsFrom
+  periods-low h [] = nil
+  periods-low h (p ∷ ps) = cons (samples-low (p .row) h (p .bytes)) (periods-low _ ps)
+
+pub by-low : (t : ResynthType) (least range : Float) (ps : List Part) → Each (Below 65536) (periodsBy t least range ps)
+unfolding periodsBy fixedFilter floatFilter
+by-low Fixed least range ps = periods-low (fixedFilter least range) (λ w. mod-lt w (omega arith)) [] ps
+by-low FloatType least range ps = periods-low (floatFilter least range) (λ a. low-lt 16 (toSigned 15 a)) [] ps

@@ -1,2 +1,4 @@
 -- Laws about marks' definitions.
 pub mod MarkLaws
+pub mod CountLaws
+pub mod LimitLaws

@@ -10,13 +10,13 @@ use Rattle.base.proofs.ListLaws.{heads-nil, heads-after, heads-cons}
 use Rattle.refusal.specs.declared.Refusal.{Refusal}
 use Rattle.voice.specs.Voice.{Voice}
 use Rattle.voice.specs.Periods.{samplesOf}
-use Rattle.voice.proofs.PeriodLaws.{Agree, samplesIn-same}
+use Rattle.voice.proofs.PeriodLaws.{Agree, samplesFrom-same}
 use Rattle.sheet.specs.declared.Target.{Target}
 use Rattle.sheet.specs.Sheet.{asF32}
 use Rattle.units.specs.declared.Unit.{Unit}
 use Rattle.units.proofs.UnitLaws.{Within, nil, cons}
 use Rattle.marks.specs.PitchMarks.{Made, Stage, climbTo, stageAfter, thenMarks, marksFrom, pitchMarks, firstStage}
-use Rattle.marks.specs.NaturalMarks.{periodsIn, marksOfPeriods, placeAfter, naturalMarks, naturalUnits}
+use Rattle.marks.specs.NaturalMarks.{periodCount, marksOfPeriods, placeAfterUnit, naturalMarks, naturalUnits}
 
 -- ---- the modified join: more targets
 
@@ -42,12 +42,12 @@ marks-append rate ts us e = from-append _ firstStage ts us e
 pub units-append : (v : Voice) (place : ℕ) (us vs : List Unit) → Heads (naturalUnits v place us) (naturalUnits v place (us ++ vs))
 unfolding naturalUnits
 units-append v place [] vs = heads-nil _
-units-append v place (u ∷ us) vs = heads-cons _ (units-append v (placeAfter v place u) us vs)
+units-append v place (u ∷ us) vs = heads-cons _ (units-append v (placeAfterUnit v place u) us vs)
 
 pub natural-append : (v : Voice) (place : ℕ) (us vs : List Unit) → Heads (naturalMarks v place us) (naturalMarks v place (us ++ vs))
 unfolding naturalMarks
 natural-append v place [] vs = heads-nil _
-natural-append v place (u ∷ us) vs = heads-after (marksOfPeriods v place (u .«first_period») (periodsIn u)) (natural-append v (placeAfter v place u) us vs)
+natural-append v place (u ∷ us) vs = heads-after (marksOfPeriods v place (u .«first_period») (periodCount u)) (natural-append v (placeAfterUnit v place u) us vs)
 
 -- ---- another voice with the same periods
 
@@ -63,16 +63,16 @@ module _ (v w : Voice) (n : ℕ) (g : Agree v w n) where
   unfolding naturalUnits
   units-same place [] i = refl
   units-same place (u ∷ us) (cons l m i) =
-      let a = samplesIn-same v w n g (u .«first_period») (periodsIn u) (omega arith) in
-      rw (a, units-same (placeAfter v place u) us i)
+      let a = samplesFrom-same v w n g (u .«first_period») (periodCount u) (omega arith) in
+      rw (a, units-same (placeAfterUnit v place u) us i)
 
   pub natural-same : (place : ℕ) (us : List Unit) → Within n us → naturalMarks w place us ≡ naturalMarks v place us
   unfolding naturalMarks
   natural-same place [] i = refl
   natural-same place (u ∷ us) (cons l m i) =
-      let a = samplesIn-same v w n g (u .«first_period») (periodsIn u) (omega arith) in
-      let b = periods-same place (u .«first_period») (periodsIn u) (omega arith) in
-      rw (a, b, natural-same (placeAfter v place u) us i)
+      let a = samplesFrom-same v w n g (u .«first_period») (periodCount u) (omega arith) in
+      let b = periods-same place (u .«first_period») (periodCount u) (omega arith) in
+      rw (a, b, natural-same (placeAfterUnit v place u) us i)
 
 pub units-within : (v : Voice) (n place : ℕ) (us : List Unit) → Within n us → Within n (naturalUnits v place us)
 unfolding naturalUnits

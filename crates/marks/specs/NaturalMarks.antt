@@ -7,13 +7,13 @@ use Rattle.base.specs.Choice.{pick}
 use Rattle.refusal.specs.declared.Refusal.{Refusal}
 use Rattle.refusal.specs.declared.Refusal.the-variants.{PastLimit, TooManyMarks}
 use Rattle.voice.specs.Voice.{Voice}
-use Rattle.voice.specs.Periods.{samplesOf, samplesIn}
+use Rattle.voice.specs.Periods.{samplesOf, samplesFrom}
 use Rattle.units.specs.declared.Unit.{Unit}
-use Rattle.marks.specs.PitchMarks.{limit}
+use Rattle.units.specs.Units.{limit}
 
 -- a unit's number of periods
-abbrev pub periodsIn : Unit → ℕ
-periodsIn u = u .«last_period» - u .«first_period»
+abbrev pub periodCount : Unit → ℕ
+periodCount u = u .«last_period» - u .«first_period»
 
 -- a mark after each of n periods from p on, the first of which begins at a place
 unfoldable pub marksOfPeriods : Voice → ℕ → ℕ → ℕ → List ℕ
@@ -21,18 +21,18 @@ marksOfPeriods v place p zero = []
 marksOfPeriods v place p (suc n) = (place + samplesOf v p) ∷ marksOfPeriods v (place + samplesOf v p) (suc p) n
 
 -- where a unit that begins at a place ends
-abbrev pub placeAfter : Voice → ℕ → Unit → ℕ
-placeAfter v place u = place + samplesIn v (u .«first_period») (periodsIn u)
+abbrev pub placeAfterUnit : Voice → ℕ → Unit → ℕ
+placeAfterUnit v place u = place + samplesFrom v (u .«first_period») (periodCount u)
 
 unfoldable pub naturalMarks : Voice → ℕ → List Unit → List ℕ
 naturalMarks v place [] = []
-naturalMarks v place (u ∷ us) = marksOfPeriods v place (u .«first_period») (periodsIn u) ++ naturalMarks v (placeAfter v place u) us
+naturalMarks v place (u ∷ us) = marksOfPeriods v place (u .«first_period») (periodCount u) ++ naturalMarks v (placeAfterUnit v place u) us
 
 -- the units, each with its target end where it naturally ends
 unfoldable pub naturalUnits : Voice → ℕ → List Unit → List Unit
 naturalUnits v place [] = []
 naturalUnits v place (u ∷ us) =
-    record { «first_period» = u .«first_period»; «last_period» = u .«last_period»; «target_end» = placeAfter v place u } ∷ naturalUnits v (placeAfter v place u) us
+    record { «first_period» = u .«first_period»; «last_period» = u .«last_period»; «target_end» = placeAfterUnit v place u } ∷ naturalUnits v (placeAfterUnit v place u) us
 
 -- mark by mark: 12 where it is one too many, then 11 where it is above the limit; `left` marks are allowed
 unfoldable pub markRefusal : ℕ → List ℕ → Option Refusal

@@ -11,13 +11,11 @@ use Rattle.refusal.specs.declared.Refusal.{Refusal}
 use Rattle.refusal.specs.declared.Refusal.the-variants.{BadSlope, PastLimit, TooManyMarks}
 use Rattle.sheet.specs.declared.Target.{Target}
 use Rattle.sheet.specs.Sheet.{isFinite, asF32}
+use Rattle.units.specs.Units.{limit}
 
--- the most marks, and the greatest of them, that a call has
+-- the most marks that a call has
 abbrev pub mostMarks : ℕ
 mostMarks = 65536
-
-abbrev pub limit : ℕ
-limit = 16777215
 
 -- the marks made, and the refusal that ended them, if one did
 pub record Made : Type 0 where
@@ -86,6 +84,7 @@ pub record Stage : Type 0 where
   pub f0 : Float
   pub left : ℕ
 
+-- at first: time 0, position 0, 'first f0 120' (15 × 2 ^ 3)
 abbrev pub firstStage : Stage
 firstStage = record { time = fin false 0 (pos 0); position = fin false 0 (pos 0); f0 = fin false 15 (pos 3); left = mostMarks }
 

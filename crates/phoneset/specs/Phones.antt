@@ -27,6 +27,12 @@ consonants =
     ∷ "v" ∷ "w" ∷ "y" ∷ "z" ∷ "zh" ∷ "pau" ∷ "h#" ∷ "brth"
     ∷ [])
 
+-- what each case of `vc` is written as
+abbrev pub vcText : Vc → List ℕ
+vcText Plus = ascii "+"
+vcText Minus = ascii "-"
+vcText Zero = ascii "0"
+
 unfoldable pub vc : List ℕ → Vc
 vc name = pick (among name vowels) Plus (pick (among name consonants) Minus Zero)
 

@@ -1,12 +1,18 @@
 // Leaf functions, exported so that the comparison with the Rust can call them.
 ghost use mathlib.Core.Path.{_≡_};
-ghost use Prim.Native.Nat.{_*_, _%_, _^_};
+ghost use Prim.Native.Nat.{_*_, _/_, _%_, _^_};
+ghost use lib.Dec.{leb};
 ghost use lib.IntN.{pos};
 ghost use lib.Ieee.{binary32, ofBits, toBits, ofInt, toSigned, toUnsigned};
+ghost use lib.ListN.{length};
 ghost use lib.Signed.{quotZ};
+ghost use Rattle.adpcm.specs.Decoder.{decoded};
+ghost use Rattle.base.specs.Buffers.{over};
+ghost use Rattle.base.specs.Choice.{pick};
 ghost use Rattle.base.specs.Words.{low, signed32};
 ghost use Rattle.float.specs.Casts.{narrow, clamped};
 ghost use Rattle.float.specs.Distance.{nearer};
+ghost use Rattle.ulaw.specs.Ulaw.{sampleOf, ulawOf};
 
 // Rust's `x as f32`.
 #[no_mangle]
@@ -110,4 +116,36 @@ pub extern "C" fn probe_divide_by_16384(word: u32) -> u32
     ensures { λ r. ⌜ r ≡ low 32 (quotZ (signed32 word) (pos 16384)) ⌝ }
 {
     base::words::divide_by_16384(word)
+}
+
+// Rust's `ulaw_to_i16`.
+#[no_mangle]
+pub extern "C" fn probe_ulaw_to_i16(byte: u8) -> i16
+    ensures { λ r. ⌜ r ≡ sampleOf byte ⌝ }
+{
+    ulaw::ulaw_to_i16(byte)
+}
+
+// Rust's `i16_to_ulaw`.
+#[no_mangle]
+pub extern "C" fn probe_i16_to_ulaw(sample: i16) -> u8
+    ensures { λ r. ⌜ r ≡ ulawOf sample ⌝ }
+{
+    ulaw::i16_to_ulaw(sample)
+}
+
+// Rust's `decode_adpcm`, into a lent buffer: where it is too short, nothing is written.
+#[no_mangle]
+pub extern "C" fn probe_decode_adpcm(packed: &[u8], out: &mut [u8])
+    ensures { λ _.
+        ⌜
+        now (out .exit) ≡
+        pick (leb (length (now (packed .entry))) (length (now (out .entry)) / 2))
+        (over (decoded (now (packed .entry))) (now (out .entry)))
+        (now (out .entry))
+        ⌝ }
+{
+    if packed.len() <= out.len() / 2 {
+        adpcm::decode_adpcm(packed, out);
+    }
 }

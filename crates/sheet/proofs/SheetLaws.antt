@@ -9,7 +9,7 @@ use lib.Dec.{ltb}
 use lib.ListN.{length}
 use Rattle.refusal.specs.declared.Refusal.{Refusal}
 use Rattle.refusal.specs.declared.Refusal.the-variants.{BadSheet}
-use Rattle.sheet.specs.Sheet.{SegmentRead, Sheet, Got, fails, gets, _andThen_, malformedIf, segment, repeated, sheetFrom, sheetIn, sheetOf}
+use Rattle.sheet.specs.Sheet.{SegmentRead, Sheet, Got, fails, gets, _andThen_, malformedIf, segment, repeated, sheetFrom, sheetGot, sheetOf}
 
 -- the followers are at most n
 pub data Refers (n : ℕ) : List SegmentRead → Type 0 where
@@ -83,6 +83,6 @@ pub sheet-refers : (bs : List ℕ) → Refers (length (sheetOf bs .segments)) (s
 unfolding sheetOf
 sheet-refers bs = by (sheetFrom bs) (from-refers bs)
   where
-    by : (g : Got Sheet) → ((s : Sheet) (r : List ℕ) → g ≡ gets s r → Own s) → Own (sheetIn g)
+    by : (g : Got Sheet) → ((s : Sheet) (r : List ℕ) → g ≡ gets s r → Own s) → Own (sheetGot g)
     by (fails c) f = nil
     by (gets s r) f = f s r refl

@@ -131,13 +131,13 @@ abbrev pub refusalIn : {A : Type 0} → Got A → Option Refusal
 refusalIn (fails r) = some r
 refusalIn (gets x bs) = none
 
-abbrev pub sheetIn : Got Sheet → Sheet
-sheetIn (fails r) = record { segments = []; targets = [] }
-sheetIn (gets s bs) = s
+abbrev pub sheetGot : Got Sheet → Sheet
+sheetGot (fails r) = record { segments = []; targets = [] }
+sheetGot (gets s bs) = s
 
 unfoldable pub sheetRefusal : List ℕ → Option Refusal
 sheetRefusal bs = refusalIn (sheetFrom bs)
 
 -- the sheet that was read; an empty one where it is refused
 unfoldable pub sheetOf : List ℕ → Sheet
-sheetOf bs = sheetIn (sheetFrom bs)
+sheetOf bs = sheetGot (sheetFrom bs)

@@ -1,2 +1,3 @@
 -- Laws about text's definitions.
 pub mod NameLaws
+pub mod Utf8Laws

@@ -7,20 +7,16 @@ use Rattle.base.specs.Choice.{pick}
 use Rattle.text.specs.declared.Wait.{Wait}
 use Rattle.text.specs.declared.Wait.the-variants.{Bad, Next}
 
--- After the first byte of a character: how many more it has, and the bounds of the second. C0 and C1 (overlong), F5 and above and the
--- bytes 80 to BF begin none; E0 and F0 exclude overlong forms, ED the surrogates, F4 what is above 10FFFF.
+-- After the first byte of a character: how many more it has, and the bounds of the second. 80 to C1 begin none, nor do F5 and above;
+-- the second byte after E0 or F0 excludes overlong forms, after ED the surrogates, after F4 what is above 10FFFF.
 unfoldable pub lead : ℕ → Wait
 lead b =
     pick (ltb b 0x80) (Next 0 0 0)
     (pick (ltb b 0xC2) Bad
     (pick (ltb b 0xE0) (Next 1 0x80 0xBF)
-    (pick (ltb b 0xE1) (Next 2 0xA0 0xBF)
-    (pick (ltb b 0xED) (Next 2 0x80 0xBF)
-    (pick (ltb b 0xEE) (Next 2 0x80 0x9F)
-    (pick (ltb b 0xF0) (Next 2 0x80 0xBF)
-    (pick (ltb b 0xF1) (Next 3 0x90 0xBF)
-    (pick (ltb b 0xF4) (Next 3 0x80 0xBF)
-    (pick (ltb b 0xF5) (Next 3 0x80 0x8F) Bad)))))))))
+    (pick (ltb b 0xF0) (Next 2 (pick (eqb b 0xE0) 0xA0 0x80) (pick (eqb b 0xED) 0x9F 0xBF))
+    (pick (ltb b 0xF5) (Next 3 (pick (eqb b 0xF0) 0x90 0x80) (pick (eqb b 0xF4) 0x8F 0xBF))
+    Bad))))
 
 -- after one byte more
 unfoldable pub step : Wait → ℕ → Wait

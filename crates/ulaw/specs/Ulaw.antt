@@ -1,6 +1,8 @@
 -- The mu-law of ITU-T G.711, Tables 2a and 2b: for each sign 8 segments of 16 intervals, on uniform PCM of 14 bits. A 16-bit sample is 4 times the
--- 14-bit value. The tables number the decision values x and the quantised values y from 1; `m` is that number less 1, 0 to 127: the character
--- signal's low seven bits before they are inverted. The optional replacement of the all-zero character signal is not made.
+-- 14-bit value. `m` is the tables' number n of the decision value x and of the quantised value y, 0 to 127; the character signal is 255 - n for a
+-- positive value and 127 - n for a negative one. What G.711 leaves open is chosen as in the Rust: a sample on a decision value is in the outer
+-- interval, a magnitude above the virtual x of 128 is in the last one, a sample is compared at 16 bits, and the optional replacement of the
+-- all-zero character signal is not made.
 use Prim.Native.Nat.{ℕ, zero, suc, _+_, _-_, _*_, _/_, _%_, _^_}
 use lib.Dec.{leb, ltb}
 use lib.IntN.{ℤ, pos, negℤ, natAbs}
@@ -15,13 +17,12 @@ decisionValue m = (32 + 2 * (m % 16)) * 2 ^ (m / 16) - 33
 unfoldable pub quantisedValue : ℕ → ℕ
 quantisedValue m = (33 + 2 * (m % 16)) * 2 ^ (m / 16) - 33
 
--- the last of the intervals 0 to m whose decision value, scaled to 16 bits, is not above the magnitude: a sample on a decision value is in the
--- outer interval
+-- the last of the intervals 0 to m whose decision value, scaled to 16 bits, is not above the magnitude
 unfoldable pub lastInterval : ℕ → ℕ → ℕ
 lastInterval zero magnitude = zero
 lastInterval (suc m) magnitude = pick (leb (4 * decisionValue (suc m)) magnitude) (suc m) (lastInterval m magnitude)
 
--- the byte of a 16-bit sample: 128 for a negative one, and the interval, all bits inverted
+-- the byte of a 16-bit sample: 255 - n, or 127 - n for a negative one
 unfoldable pub ulawOf : ℤ → ℕ
 ulawOf sample = 255 - (pick (ltZ sample (pos 0)) 128 0 + lastInterval 127 (natAbs sample))
 

@@ -11,7 +11,7 @@ use lib.ListN.{length, length-map}
 use Rattle.base.specs.Lists.{Heads}
 use Rattle.base.proofs.ListLaws.{and-left, and-right, heads-nil, heads-after}
 use Rattle.voice.specs.Voice.{Voice, Entry, lookup, isSome}
-use Rattle.voice.specs.Opening.{lastPeriod, withinFrames, distinct}
+use Rattle.voice.specs.Opening.{endPeriod, withinFrames, distinct}
 use Rattle.voice.specs.Extends.{Extends}
 use Rattle.voice.proofs.EntryLaws.{lookup-finds, stands-found, stands-within}
 use Rattle.sheet.specs.Sheet.{SegmentRead, asF32}
@@ -31,7 +31,7 @@ pub data Within (n : ℕ) : List Unit → Type 0 where
 pair-same : (r r′ : ℕ) (e e′ : Entry) (x y : Float) (q q′ : List Unit) → r ≡ r′ → e ≡ e′ → q ≡ q′ → unitsOfPair r e x y ++ q ≡ unitsOfPair r′ e′ x y ++ q′
 pair-same r r′ e e′ x y q q′ a b c = cc
 
-pair-within : (n r : ℕ) (e : Entry) (x y : Float) (us : List Unit) → lastPeriod e ≤ n → Within n us → Within n (unitsOfPair r e x y ++ us)
+pair-within : (n r : ℕ) (e : Entry) (x y : Float) (us : List Unit) → endPeriod e ≤ n → Within n us → Within n (unitsOfPair r e x y ++ us)
 unfolding unitsOfPair
 pair-within n r e x y us l i =
     let a : e .start ≤ e .start + e .first = omega arith in
@@ -44,7 +44,7 @@ record SameEntry (v w : Voice) (n : ℕ) (ss : List SegmentRead) (left right : S
   one : Entry
   fromV : entryOf v ss left right ≡ one
   fromW : entryOf w ss left right ≡ one
-  inside : lastPeriod one ≤ n
+  inside : endPeriod one ≤ n
 
 record Is (h : Option Entry) : Type 0 where
   entry : Entry
@@ -79,7 +79,7 @@ module _ (v w : Voice) (x : Extends w v) (inside : withinFrames (v .header .fram
       let b = from-same ss right rs (and-right found (foundFrom v ss right rs) h) in
       record {
         same = pair-same (w .header .rate) (v .header .rate) (entryOf w ss left right) (entryOf v ss left right) (asF32 (left .end)) (asF32 (right .end)) _ _ (x .rate) (a .fromW ∙ sym (a .fromV)) (b .same);
-        within = pair-within (v .header .frames) (v .header .rate) (entryOf v ss left right) (asF32 (left .end)) (asF32 (right .end)) (unitsFrom v ss right rs) (subst (λ (e : Entry). lastPeriod e ≤ v .header .frames) (sym (a .fromV)) (a .inside)) (b .within);
+        within = pair-within (v .header .frames) (v .header .rate) (entryOf v ss left right) (asF32 (left .end)) (asF32 (right .end)) (unitsFrom v ss right rs) (subst (λ (e : Entry). endPeriod e ≤ v .header .frames) (sym (a .fromV)) (a .inside)) (b .within);
       }
 
   all-same : (ss rs : List SegmentRead) → foundAll v ss rs ≡ true → Same (unitsAll v ss rs) (unitsAll w ss rs)

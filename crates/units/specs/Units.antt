@@ -18,7 +18,7 @@ use Rattle.units.specs.Selecting.{entryOf}
 unfoldable pub samplesAt : ℕ → Float → ℕ
 samplesAt rate time = toUnsigned 64 (mul binary32 time (ofInt binary32 (pos rate)))
 
--- '(left + right) / 2', in f32
+-- '(left + right) / 2', in f32 (`fin false 1 (pos 1)` is 2)
 unfoldable pub midway : Float → Float → Float
 midway left right = div binary32 (add binary32 left right) (fin false 1 (pos 1))
 
@@ -44,7 +44,11 @@ unitsAll v ss (s ∷ rs) = unitsFrom v ss s rs
 abbrev pub unitsOf : Voice → List SegmentRead → List Unit
 unitsOf v ss = unitsAll v ss ss
 
--- 11 at the first target end above 16,777,215, in unit order
+-- the greatest mark or target end that a call has
+abbrev pub limit : ℕ
+limit = 16777215
+
+-- 11 at the first target end above the limit, in unit order
 unfoldable pub endRefusal : List Unit → Option Refusal
 endRefusal [] = none
-endRefusal (u ∷ us) = pick (leb (u .«target_end») 16777215) (endRefusal us) (some PastLimit)
+endRefusal (u ∷ us) = pick (leb (u .«target_end») limit) (endRefusal us) (some PastLimit)

@@ -12,7 +12,7 @@ use Rattle.base.proofs.ListLaws.{and-left, and-right}
 use Rattle.text.specs.Names.{same}
 use Rattle.text.proofs.NameLaws.{same-eq, same-refl}
 use Rattle.voice.specs.Voice.{Entry, Placed, lookup, isSome}
-use Rattle.voice.specs.Opening.{lastPeriod, withinFrames, distinct}
+use Rattle.voice.specs.Opening.{endPeriod, withinFrames, distinct}
 use Rattle.voice.specs.Extends.{Stands, here, there}
 
 -- an entry that stands in the index under a name
@@ -45,7 +45,7 @@ stands-found (p ∷ ps) u e (there m) = by (same (p .entry .name) (e .name)) ref
     by false s ih = ih
 
 -- its periods end within the frames
-pub stands-within : (n : ℕ) (ps : List Placed) → withinFrames n ps ≡ true → (e : Entry) → Stands e ps → lastPeriod e ≤ n
+pub stands-within : (n : ℕ) (ps : List Placed) → withinFrames n ps ≡ true → (e : Entry) → Stands e ps → endPeriod e ≤ n
 unfolding withinFrames
-stands-within n (p ∷ ps) w e (here q) = rw q (leb-true _ _ (and-left (leb (lastPeriod (p .entry)) n) (withinFrames n ps) w))
-stands-within n (p ∷ ps) w e (there m) = stands-within n ps (and-right (leb (lastPeriod (p .entry)) n) (withinFrames n ps) w) e m
+stands-within n (p ∷ ps) w e (here q) = rw q (leb-true _ _ (and-left (leb (endPeriod (p .entry)) n) (withinFrames n ps) w))
+stands-within n (p ∷ ps) w e (there m) = stands-within n ps (and-right (leb (endPeriod (p .entry)) n) (withinFrames n ps) w) e m

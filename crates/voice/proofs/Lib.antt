@@ -2,3 +2,4 @@
 pub mod EntryLaws
 pub mod PeriodLaws
 pub mod OpeningLaws
+pub mod LowLaws

@@ -18,7 +18,7 @@ use Rattle.base.proofs.ListLaws.{and-left, and-right}
 use Rattle.base.proofs.BufferLaws.{upto-same}
 use Rattle.base.proofs.ByteLaws.{littleEndian-same}
 use Rattle.voice.specs.Voice.{Voice}
-use Rattle.voice.specs.Periods.{offset, gap, residualOf, sizedBy, samplesOf, samplesIn, rowOf}
+use Rattle.voice.specs.Periods.{offset, gap, residualOf, sizedBy, samplesOf, samplesFrom, rowOf}
 use Rattle.voice.specs.Opening.{rising}
 use Rattle.voice.specs.Extends.{Extends, SameSizes, neither, both}
 
@@ -104,7 +104,7 @@ module _ (v w : Voice) (x : Extends w v) (r : rising v (v .header .frames) ≡ t
   agrees = record { samples = samples-same; rows = row-same; residuals = residual-same; codec = x .codec }
 
 -- the samples of periods below n
-pub samplesIn-same : (v w : Voice) (n : ℕ) → Agree v w n → (p k : ℕ) → p + k ≤ n → samplesIn w p k ≡ samplesIn v p k
-unfolding samplesIn
-samplesIn-same v w n g p zero h = refl
-samplesIn-same v w n g p (suc k) h = rw (g .samples p (omega arith), samplesIn-same v w n g (suc p) k (omega arith))
+pub samplesFrom-same : (v w : Voice) (n : ℕ) → Agree v w n → (p k : ℕ) → p + k ≤ n → samplesFrom w p k ≡ samplesFrom v p k
+unfolding samplesFrom
+samplesFrom-same v w n g p zero h = refl
+samplesFrom-same v w n g p (suc k) h = rw (g .samples p (omega arith), samplesFrom-same v w n g (suc p) k (omega arith))

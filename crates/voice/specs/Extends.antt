@@ -19,7 +19,8 @@ pub data SameSizes (n : ℕ) : Option (List ℕ) → Option (List ℕ) → Type 
 
 -- 'rate, order, coeff_min and coeff_range bits, codec and the presence of `sts.ressize` agree; W has at least V's frames; V's rows, sizes,
 -- first frames + 1 offsets and the residual up to V's last offset are W's too; each V entry stands in W'.
--- An open voice's scales are finite, and two finite floats are the same value exactly where their bits agree.
+-- An open voice's scales are finite, and finite floats are equal exactly where their bits agree: the logic's floats keep the sign of a zero
+-- (law `word-back` of `float`).
 pub record Extends (w v : Voice) : Type 0 where
   pub rate : w .header .rate ≡ v .header .rate
   pub order : w .header .order ≡ v .header .order

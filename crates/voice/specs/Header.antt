@@ -32,11 +32,15 @@ headerOf bs =
       fold = u32At bs 9;
     }
 
--- the codec of a header that opens: 0 is mu-law, 1 is G.721
-abbrev pub codecOf : VoiceHeader → Codec
-codecOf h = pick (eqb (h .codec) 0) Ulaw G721
+-- 'codec u32 (0 mu-law, 1 G.721)', and the codec of a header that opens
+abbrev pub codecNumber : Codec → ℕ
+codecNumber Ulaw = 0
+codecNumber G721 = 1
 
--- finite, from -16 to 16; a NaN is in no order
+abbrev pub codecOf : VoiceHeader → Codec
+codecOf h = pick (eqb (h .codec) (codecNumber Ulaw)) Ulaw G721
+
+-- finite, from -16 to 16 (a float `fin s m e` is m × 2 ^ e, negative where s is true); a NaN is in no order
 unfoldable pub inScale : Float → Bool
 inScale x = le (fin true 1 (pos 4)) x && le x (fin false 1 (pos 4))
 

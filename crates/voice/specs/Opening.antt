@@ -55,13 +55,13 @@ goodTables v =
     ∷ leb (offset v n) (length (v .residual))
     ∷ [])
 
--- 7: where an entry's periods end
-abbrev pub lastPeriod : Entry → ℕ
-lastPeriod e = e .start + e .first + e .second
+-- 7: where an entry's periods end, one past its last
+abbrev pub endPeriod : Entry → ℕ
+endPeriod e = e .start + e .first + e .second
 
 unfoldable pub withinFrames : ℕ → List Placed → Bool
 withinFrames n [] = true
-withinFrames n (p ∷ ps) = leb (lastPeriod (p .entry)) n && withinFrames n ps
+withinFrames n (p ∷ ps) = leb (endPeriod (p .entry)) n && withinFrames n ps
 
 -- no name stands twice
 unfoldable pub distinct : List Placed → Bool
@@ -85,6 +85,7 @@ goodIndex file =
     ∷ withinFrames (d .header .frames) (i .list)
     ∷ [])
 
+-- what refuses a voice file, whatever index buffer comes with it: 1 to 7
 unfoldable pub openingRefusal : List ℕ → Option Refusal
 openingRefusal file =
     let ss = sections file .list in
@@ -113,13 +114,17 @@ answerOpening d (some r) = Refused r
 unfoldable pub openOf : List ℕ → ℕ → Opened
 openOf file n = answerOpening (placesOf file) (openRefusal file n)
 
+-- the bytes of the sorted index
+abbrev pub indexBytes : Voice → List ℕ
+indexBytes v = flat (bytesOf 8) (sortedIndex v)
+
 -- the index buffer afterwards: on a refusal as it was
 abbrev pub fillIndex : List ℕ → List ℕ → Option Refusal → List ℕ
 fillIndex new old none = over new old
 fillIndex new old (some r) = old
 
 unfoldable pub indexAfter : List ℕ → List ℕ → List ℕ
-indexAfter file old = fillIndex (flat (bytesOf 8) (sortedIndex (voiceOf file))) old (openRefusal file (length old))
+indexAfter file old = fillIndex (indexBytes (voiceOf file)) old (openRefusal file (length old))
 
 -- document 01's number for an answer: 0 where the voice opens
 abbrev pub openNumber : Opened → ℕ

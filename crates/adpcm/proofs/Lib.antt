@@ -1,0 +1,2 @@
+-- What a turn of the decoder's loop keeps.
+pub mod Turns

@@ -1,0 +1,2 @@
+-- Laws about the floating format.
+pub mod FloatLaws

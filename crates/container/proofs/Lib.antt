@@ -1,0 +1,2 @@
+-- Laws about container's definitions.
+pub mod SectionLaws

@@ -1,0 +1,186 @@
+-- Document 01, 'Proved examples': its table of twelve rows, its printed example and its edges, as statements over the definitions.
+use mathlib.Core.Path.{_≡_}
+use mathlib.Core.Bool.{true, false}
+use mathlib.Core.List.{List, [], _∷_, _++_, map}
+use mathlib.Core.Option.{none, some}
+use Prim.Native.Nat.{ℕ, zero, suc, _*_}
+use lib.IntN.{ℤ, pos, negsuc}
+use lib.ListN.{length, replicate}
+use lib.Ieee.{Float, fin}
+use Rattle.base.specs.Text.{ascii}
+use Rattle.base.specs.Bytes.{bytesOf}
+use Rattle.base.specs.Words.{low, signed16}
+use Rattle.refusal.specs.declared.Refusal.the-variants.{BadHeader, BadSheet, TooManyMarks}
+use Rattle.ulaw.specs.Ulaw.{sampleOf, ulawOf}
+use Rattle.adpcm_predict.specs.Predictor.{upb}
+use Rattle.adpcm.specs.Decoder.{fresh, signalsOf, sampleIn}
+use Rattle.voice.specs.Voice.{Voice, voiceOf}
+use Rattle.voice.specs.Opening.{openingRefusal}
+use Rattle.sheet.specs.declared.Value.the-variants.{Int, Float as FloatValue}
+use Rattle.sheet.specs.declared.Target.{Target}
+use Rattle.sheet.specs.Sheet.{sheetOf, sheetRefusal}
+use Rattle.marks.specs.PitchMarks.{pitchMarks, mostMarks}
+use Rattle.marks.specs.NaturalMarks.{markRefusal}
+use Rattle.excitation.specs.Source.{centred}
+use Rattle.excitation.specs.Nearest.{nearestPeriod}
+use Rattle.lpc.specs.declared.ResynthType.the-variants.{Fixed}
+use Rattle.lpc.specs.Filter.{Filter, outputs, samples, periodsFrom}
+use Rattle.lpc.specs.Fixed.{scaledBy, rowValue, divided, fixedFilter}
+use Rattle.diphone.specs.declared.JoinType.the-variants.{Simple}
+use Rattle.diphone.specs.declared.Settings.{Settings}
+use Rattle.diphone.specs.declared.Called.the-variants.{Spoken}
+use Rattle.diphone.specs.Call.{periodsOf}
+use Rattle.diphone.specs.Buffers.{Buffers, filled, plannedOf}
+
+-- ---- what the rows speak of
+
+-- the sample and the mu-law byte of one code, fresh
+abbrev pub freshSample : ℕ → ℤ
+freshSample code = sampleIn (signalsOf fresh code)
+
+abbrev pub freshByte : ℕ → ℕ
+freshByte code = ulawOf (freshSample code)
+
+-- the fixed filter's row value for min -1 and range 2
+abbrev pub exampleValue : ℕ → ℤ
+exampleValue q = rowValue (scaledBy 32768 (fin true 1 (pos 0))) (scaledBy 2048 (fin false 1 (pos 1))) q
+
+abbrev pub zeroFloat : Float
+zeroFloat = fin false 0 (pos 0)
+
+-- a voice with two periods of 2 samples
+abbrev pub twoPeriods : Voice
+twoPeriods =
+    record {
+      header = record { frames = 2; order = 0; rate = 8000; «coeff_min» = zeroFloat; «coeff_range» = zeroFloat; codec = 0; stretch = zeroFloat; «f0_mean» = zeroFloat; «f0_deviation» = zeroFloat; fold = 0 };
+      lpc = [];
+      offsets = bytesOf 4 0 ++ (bytesOf 4 2 ++ bytesOf 4 4);
+      sizes = none;
+      residual = 1 ∷ 2 ∷ 3 ∷ 4 ∷ [];
+      entries = [];
+      indexAt = 0;
+    }
+
+-- the targets (0, 64), (0.0625, 64)
+abbrev pub twoTargets : List Target
+twoTargets = record { pos = Int (pos 0); f0 = Int (pos 64) } ∷ record { pos = FloatValue (fin false 1 (negsuc 3)); f0 = Int (pos 64) } ∷ []
+
+-- ---- the table
+
+pub record Table : Type 0 where
+  -- mu-law 255, 127: 0, 0
+  pub muLawZero : (sampleOf 255 ≡ pos 0) × (sampleOf 127 ≡ pos 0)
+  -- mu-law 0, 128: -32124, 32124
+  pub muLawEnds : (sampleOf 0 ≡ negsuc 32123) × (sampleOf 128 ≡ pos 32124)
+  -- encode 3, 4: 255, 254
+  pub encodeStep : (ulawOf (pos 3) ≡ 255) × (ulawOf (pos 4) ≡ 254)
+  -- encode 0, -1: 255, 127
+  pub encodeSign : (ulawOf (pos 0) ≡ 255) × (ulawOf (negsuc 0) ≡ 127)
+  -- encode 32767, -32768: 128, 0
+  pub encodeEnds : (ulawOf (pos 32767) ≡ 128) × (ulawOf (negsuc 32767) ≡ 0)
+  -- fresh G.721, code 7: sample 88, byte 244
+  pub codeSeven : (freshSample 7 ≡ pos 88) × (freshByte 7 ≡ 244)
+  -- fresh G.721, code 8: sample -88, byte 116
+  pub codeEight : (freshSample 8 ≡ negsuc 87) × (freshByte 8 ≡ 116)
+  -- fresh G.721, code 15: sample 0, byte 255
+  pub codeFifteen : (freshSample 15 ≡ pos 0) × (freshByte 15 ≡ 255)
+  -- min -1, range 2, q 65535, 0: 16383, -16384
+  pub rowValues : (exampleValue 65535 ≡ pos 16383) × (exampleValue 0 ≡ negsuc 16383)
+  -- periods 2 and 2, position 1: the second
+  pub tieMovesOn : nearestPeriod twoPeriods (record { «first_period» = 0; «last_period» = 2; «target_end» = 4 }) (fin false 1 (pos 0)) ≡ 1
+  -- 3 bytes into 6; 6 into 3: offset 1; from 1
+  pub centredBytes : (centred 6 (1 ∷ 2 ∷ 3 ∷ []) ≡ 255 ∷ 1 ∷ 2 ∷ 3 ∷ 255 ∷ 255 ∷ []) × (centred 3 (1 ∷ 2 ∷ 3 ∷ 4 ∷ 5 ∷ 6 ∷ []) ≡ 2 ∷ 3 ∷ 4 ∷ [])
+  -- rate 8000, targets (0, 64), (0.0625, 64): marks 125, 250, 375, 500
+  pub fourMarks : pitchMarks 8000 twoTargets ≡ record { refusal = none; marks = 125 ∷ 250 ∷ 375 ∷ 500 ∷ [] }
+
+-- ---- the printed example
+
+-- a section: its name and data
+abbrev pub sectionBytes : List ℕ → List ℕ → List ℕ
+sectionBytes name bytes = length name ∷ (name ++ (bytesOf 4 (length bytes) ++ bytes))
+
+-- a header of 2 frames at rate 8000, scales 0, mu-law
+abbrev pub headerBytes : ℕ → List ℕ
+headerBytes order = bytesOf 4 2 ++ (bytesOf 4 order ++ (bytesOf 4 8000 ++ replicate 28 0))
+
+-- 'a voice of 2 frames, rate 8000, order 0, scales 0, mu-law, no `sts.ressize`, offsets 0, 2, 5, entry `pau-aa` start 0 and halves 1, 1, and in
+-- hexadecimal residual FE EF FF 7E 6F'; of any order, with rows of 0
+unfoldable pub exampleVoice : ℕ → List ℕ
+exampleVoice order =
+    ascii "FLRSDAT\u{1}"
+    ++ (sectionBytes (ascii "sts.header") (headerBytes order)
+    ++ (sectionBytes (ascii "sts.lpc") (replicate (4 * order) 0)
+    ++ (sectionBytes (ascii "sts.resoffs") (bytesOf 4 0 ++ (bytesOf 4 2 ++ bytesOf 4 5))
+    ++ (sectionBytes (ascii "sts.res") (0xFE ∷ 0xEF ∷ 0xFF ∷ 0x7E ∷ 0x6F ∷ [])
+    ++ sectionBytes (ascii "dip.index") (bytesOf 4 1 ++ (6 ∷ (ascii "pau-aa" ++ (0 ∷ 0 ∷ 1 ∷ 1 ∷ []))))))))
+
+-- 'sheet 02 03 70 61 75 02 00 02 61 61 02 00 00'
+abbrev pub exampleSheet : List ℕ
+exampleSheet = 0x02 ∷ 0x03 ∷ 0x70 ∷ 0x61 ∷ 0x75 ∷ 0x02 ∷ 0x00 ∷ 0x02 ∷ 0x61 ∷ 0x61 ∷ 0x02 ∷ 0x00 ∷ 0x00 ∷ []
+
+-- 'simple join, fixed filter, no fold'
+abbrev pub exampleSettings : Settings
+exampleSettings = record { join = Simple; filter = Fixed; fold = false }
+
+-- 'an excitation buffer of 4,096 bytes, all 255; .. its others 1,024 each'
+abbrev pub exampleBuffers : Buffers
+exampleBuffers =
+    record {
+      index = replicate 8192 0;
+      marks = replicate 4096 0;
+      sizes = replicate 4096 0;
+      rows = replicate 2048 0;
+      excitation = replicate 4096 255;
+      decoded = replicate 1024 0;
+    }
+
+-- 8000 2 5; period 1 of size 2: 8 132; period 2 of size 3: 0 -8 -132; and what the call filled: the offset of the entry's name-length byte, marks,
+-- sizes, and the excitation
+pub record Printed : Type 0 where
+  pub summary : plannedOf (exampleVoice 0) exampleSheet exampleSettings exampleBuffers .answer
+      ≡ Spoken (record { rate = 8000; periods = 2; samples = 5; marks = 2; order = 0; entries = 1 })
+  pub periods : map (map signed16) (periodsOf (voiceOf (exampleVoice 0)) (sheetOf exampleSheet) exampleSettings)
+      ≡ (pos 8 ∷ pos 132 ∷ []) ∷ (pos 0 ∷ negsuc 7 ∷ negsuc 131 ∷ []) ∷ []
+  pub buffers : filled (voiceOf (exampleVoice 0)) (sheetOf exampleSheet) exampleSettings
+      ≡ record {
+        index = bytesOf 8 138;
+        marks = bytesOf 4 2 ++ bytesOf 4 5;
+        sizes = bytesOf 4 2 ++ bytesOf 4 3;
+        rows = [];
+        excitation = 0xFE ∷ 0xEF ∷ 0xFF ∷ 0x7E ∷ 0x6F ∷ [];
+        decoded = [];
+      }
+
+-- ---- the edges
+
+-- n segments with no name, an absent end and no follower, and no target
+unfoldable pub segmentsOf : ℕ → List ℕ
+segmentsOf zero = 0 ∷ []
+segmentsOf (suc n) = 0 ∷ 2 ∷ 0 ∷ segmentsOf n
+
+pub record Edges : Type 0 where
+  -- order 32 opens, 33 gives 5
+  pub orders : (openingRefusal (exampleVoice 32) ≡ none) × (openingRefusal (exampleVoice 33) ≡ some BadHeader)
+  -- 4,096 segments read, 4,097 gives 8
+  pub segments : (sheetRefusal (128 ∷ 32 ∷ segmentsOf 4096) ≡ none) × (sheetRefusal (129 ∷ 32 ∷ segmentsOf 4097) ≡ some BadSheet)
+  -- 65,536 marks pass, 65,537 give 12
+  pub marks : (markRefusal mostMarks (replicate 65536 7) ≡ none) × (markRefusal mostMarks (replicate 65537 7) ≡ some TooManyMarks)
+
+-- ---- 'Errors a porter would make'
+
+-- the fixed filter of min 1, range 0: every row value is 16384, so each output is the residual's sample plus the output before
+abbrev pub sumFilter : Filter ℕ
+sumFilter = fixedFilter (fin false 1 (pos 0)) zeroFloat
+
+pub record PorterErrors : Type 0 where
+  -- -1 / 16384 is 0
+  pub towardsZero : divided (low 32 (negsuc 0)) ≡ 0
+  -- history 40000 sends -25536 and keeps 40000
+  pub keeps : outputs sumFilter (0 ∷ []) (40000 ∷ []) (255 ∷ []) ≡ 40000 ∷ 40000 ∷ []
+  pub sends : map signed16 (samples sumFilter (0 ∷ []) (40000 ∷ []) (255 ∷ [])) ≡ negsuc 25535 ∷ []
+  -- a zero coefficient steps from 32767 to -32768, modulo 65,536
+  pub wraps : upb 1 0 32767 ≡ 32768
+  -- decode then encode: 127 becomes 255
+  pub notIdentity : ulawOf (sampleOf 127) ≡ 255
+  -- history crosses periods
+  pub crosses : periodsFrom sumFilter [] (record { row = 0 ∷ []; bytes = 0xEF ∷ [] } ∷ record { row = 0 ∷ []; bytes = 0xFF ∷ [] } ∷ []) ≡ (132 ∷ []) ∷ (132 ∷ []) ∷ []

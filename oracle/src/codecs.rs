@@ -1,0 +1,154 @@
+//! `oracle codecs`: mu-law and the G.721 decoder of libprobe.a beside the
+//! Rust's: every byte, every sample, and packed codes of several kinds, each
+//! decoded from a fresh state.
+
+use crate::args::Args;
+use crate::dsp;
+use crate::dsp::access::decode_adpcm;
+use crate::probe;
+use crate::rng::Rng;
+use std::time::{Duration, Instant};
+
+/// Codes in a run that is not told otherwise.
+const COUNT: u64 = 2_000_000;
+
+/// The longest period that is decoded at once, in packed bytes, but for the
+/// held codes.
+const LONGEST: usize = 4_096;
+
+/// Packed bytes of one held code: long enough for every delay to settle.
+const HELD: usize = 10_000;
+
+pub fn run(args: &Args) -> bool {
+    let count = args.count.unwrap_or(COUNT).max(1);
+    println!("oracle codecs: seed {}, count {count}", args.seed);
+    let mut agreed = bytes_and_samples();
+    let mut tally = Tally::default();
+    for code in 0..16u8 {
+        tally.compare("held", &vec![code << 4 | code; HELD]);
+    }
+    let mut case = 0;
+    while tally.codes < count {
+        let mut rng = Rng::for_case(args.seed, case);
+        let (kind, packed) = period(&mut rng);
+        tally.compare(kind, &packed);
+        case += 1;
+    }
+    println!(
+        "  decode_adpcm: {} codes in {case} periods and 16 held ones, {} mismatches",
+        tally.codes, tally.wrong
+    );
+    for time in &tally.times {
+        println!(
+            "  decode_adpcm: {} codes: {:.1} ns a code in the Rust, {:.1} ns in the archive",
+            time.kind,
+            each(time.rust, time.codes),
+            each(time.archive, time.codes)
+        );
+    }
+    agreed &= tally.wrong == 0;
+    let end = if agreed { "all equal" } else { "mismatches" };
+    println!("oracle codecs: {end}");
+    agreed
+}
+
+fn each(time: Duration, codes: u64) -> f64 {
+    time.as_nanos() as f64 / codes as f64
+}
+
+/// All 256 bytes decoded, all 65,536 samples encoded.
+fn bytes_and_samples() -> bool {
+    let mut wrong = 0;
+    for byte in 0..=u8::MAX {
+        let (rust, archive) = (dsp::ulaw_to_i16(byte), probe::probe_ulaw_to_i16(byte));
+        if rust != archive {
+            wrong += 1;
+            println!("oracle: mismatch: ulaw_to_i16: byte {byte}: Rust {rust}, archive {archive}");
+        }
+    }
+    for sample in i16::MIN..=i16::MAX {
+        let (rust, archive) = (dsp::i16_to_ulaw(sample), probe::probe_i16_to_ulaw(sample));
+        if rust != archive {
+            wrong += 1;
+            println!(
+                "oracle: mismatch: i16_to_ulaw: sample {sample}: Rust {rust}, archive {archive}"
+            );
+        }
+    }
+    println!("  ulaw_to_i16: 256 bytes; i16_to_ulaw: 65536 samples; {wrong} mismatches");
+    wrong == 0
+}
+
+/// The packed codes of a period, and what kind they are.
+fn period(rng: &mut Rng) -> (&'static str, Vec<u8>) {
+    let length = 1 + rng.below(LONGEST);
+    let (a, b) = (rng.byte() & 15, rng.byte() & 15);
+    let mut codes = Vec::with_capacity(2 * length);
+    let kind = rng.below(4);
+    for i in 0..2 * length {
+        codes.push(match kind {
+            0 => rng.byte() & 15,
+            1 => [a, b][i % 2],
+            2 => (i / (1 + a as usize * 16) % 16) as u8,
+            _ => [a, b, rng.byte() & 15][i / 97 % 3],
+        });
+    }
+    let packed = codes.chunks(2).map(|two| two[0] << 4 | two[1]).collect();
+    (["random", "alternating", "climbing", "runs"][kind], packed)
+}
+
+#[derive(Default)]
+struct Tally {
+    codes: u64,
+    wrong: u64,
+    times: Vec<Time>,
+}
+
+/// What one kind of codes took.
+struct Time {
+    kind: &'static str,
+    codes: u64,
+    rust: Duration,
+    archive: Duration,
+}
+
+impl Tally {
+    fn time(&mut self, kind: &'static str) -> &mut Time {
+        let known = self.times.iter().position(|time| time.kind == kind);
+        let at = known.unwrap_or(self.times.len());
+        if known.is_none() {
+            self.times.push(Time {
+                kind,
+                codes: 0,
+                rust: Duration::ZERO,
+                archive: Duration::ZERO,
+            });
+        }
+        &mut self.times[at]
+    }
+
+    /// Decodes one period both ways. The archive's output stands in a buffer
+    /// with room to spare, which it must leave as it was.
+    fn compare(&mut self, kind: &'static str, packed: &[u8]) {
+        let start = Instant::now();
+        let rust = decode_adpcm(packed);
+        let rust_time = start.elapsed();
+        let mut out = vec![0xA5; 2 * packed.len() + 3];
+        let start = Instant::now();
+        probe::decode_adpcm(packed, &mut out);
+        let archive_time = start.elapsed();
+        self.codes += 2 * packed.len() as u64;
+        let time = self.time(kind);
+        time.codes += 2 * packed.len() as u64;
+        time.rust += rust_time;
+        time.archive += archive_time;
+        let (front, rest) = out.split_at(2 * packed.len());
+        let first = rust.iter().zip(front).position(|(a, b)| a != b);
+        if first.is_some() || rest != [0xA5; 3] || rust.len() != front.len() {
+            self.wrong += 1;
+            println!(
+                "oracle: mismatch: decode_adpcm: {kind} codes, first at {first:?}, {packed:02x?}"
+            );
+        }
+    }
+}
