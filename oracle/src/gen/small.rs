@@ -59,17 +59,17 @@ pub fn voice(rng: &mut Rng, words: &Vocabulary, shape: Shape) -> VoiceSpec {
 }
 
 /// A G.721 voice whose first period is long, so that the decoder's state goes
-/// far.
-pub fn long_voice(rng: &mut Rng, words: &Vocabulary) -> VoiceSpec {
+/// far, or a tone, so that it detects one.
+pub fn long_voice(rng: &mut Rng, words: &Vocabulary, is_tone: bool) -> VoiceSpec {
     let shape = Shape {
         g721: true,
         sizes: rng.once_in(2),
     };
     let mut spec = voice(rng, words, shape);
     let length = rng.between(100, 140);
-    let stored = match rng.once_in(2) {
-        true => (0..length).map(|_| residual_byte(rng, 3)).collect(),
-        false => tone(rng, length),
+    let stored = match is_tone {
+        true => tone(rng, length),
+        false => (0..length).map(|_| residual_byte(rng, 3)).collect(),
     };
     lengthen(&mut spec, &stored);
     if let Some(sizes) = &mut spec.sizes {

@@ -12,7 +12,8 @@ pub fn about(kind: Kind, draft: &Draft, shown: &Expected) -> String {
     let name = match kind {
         Kind::Spoken(settings, _) => format!("spoken, {} join", join_name(settings.join)),
         Kind::FarMarks => "spoken, marks far apart".to_string(),
-        Kind::LongPeriod => "spoken, long period".to_string(),
+        Kind::LongPeriod { .. } => "spoken, long period".to_string(),
+        Kind::OneMark => "spoken, one mark".to_string(),
         Kind::Rounding => "spoken, rounding that shows".to_string(),
         Kind::Extended => "spoken, extended voice and longer sheet".to_string(),
         Kind::Inside => "spoken, inside a limit".to_string(),

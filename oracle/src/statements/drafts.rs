@@ -68,7 +68,8 @@ pub fn draft(rng: &mut Rng, kind: Kind, limits: &Limits) -> Option<Draft> {
     let draft = match kind {
         Kind::Spoken(settings, shape) => good(rng, settings, shape),
         Kind::FarMarks => far_marks(rng),
-        Kind::LongPeriod => long_period(rng),
+        Kind::LongPeriod { tone } => long_period(rng, tone),
+        Kind::OneMark => simple_call(rng),
         Kind::Rounding => float_call(rng),
         Kind::Extended => extended(rng),
         Kind::Inside => inside(rng, limits)?,
@@ -146,9 +147,19 @@ fn far_marks(rng: &mut Rng) -> Draft {
     drafted(rng, &spec, &sheet, settings)
 }
 
-fn long_period(rng: &mut Rng) -> Draft {
+/// A call of the simple join, whose marks are all taken.
+fn simple_call(rng: &mut Rng) -> Draft {
+    let settings = Settings {
+        join: Join::Simple,
+        ..any_settings(rng)
+    };
+    let shape = small::shape(rng);
+    good(rng, settings, shape)
+}
+
+fn long_period(rng: &mut Rng, tone: bool) -> Draft {
     let words = small::vocabulary(rng);
-    let spec = small::long_voice(rng, &words);
+    let spec = small::long_voice(rng, &words, tone);
     let sheet = small::sheet(rng, &words, spec.header.rate);
     let settings = any_settings(rng);
     drafted(rng, &spec, &sheet, settings)

@@ -28,8 +28,10 @@ pub enum Kind {
     Spoken(Settings, Shape),
     /// Spoken, with marks that lie far apart.
     FarMarks,
-    /// Spoken, with a long G.721 period.
-    LongPeriod,
+    /// Spoken, with a long G.721 period, of any codes or of a tone.
+    LongPeriod { tone: bool },
+    /// Spoken, with one mark, which gives no period.
+    OneMark,
     /// Spoken, by samples that tell how the float filter rounds.
     Rounding,
     /// Spoken, a longer sheet on an extended voice.
@@ -56,7 +58,7 @@ impl Kind {
     /// The most that a call of this kind may make.
     pub fn most(self) -> Most {
         match self {
-            Kind::LongPeriod => LONG,
+            Kind::LongPeriod { .. } => LONG,
             Kind::ManyMarks { .. } => ANY,
             _ => SMALL,
         }
@@ -67,7 +69,7 @@ impl Kind {
 pub fn all() -> Vec<Kind> {
     let mut kinds = spoken_kinds();
     kinds.extend([Kind::FarMarks; 3]);
-    kinds.extend([Kind::LongPeriod; 2]);
+    kinds.extend([false, true].map(|tone| Kind::LongPeriod { tone }));
     kinds.push(Kind::Rounding);
     kinds.extend([Kind::Extended; 3]);
     kinds.extend([Kind::Inside; 2]);
@@ -77,7 +79,8 @@ pub fn all() -> Vec<Kind> {
     kinds.extend([Refusal::Slope, Refusal::TooFar].map(Kind::Call));
     kinds.extend([true, false].map(|too_many| Kind::ManyMarks { too_many }));
     kinds.extend((0..6).map(Kind::Short));
-    kinds.extend([Kind::Several; 5]);
+    kinds.extend([Kind::Several; 4]);
+    kinds.push(Kind::OneMark);
     Rng::new(0).shuffle(&mut kinds);
     kinds
 }
@@ -132,6 +135,7 @@ fn is_spoken(rng: &mut Rng, kind: Kind, voice: &[u8], call: &Spoken) -> bool {
         Kind::Spoken(settings, _) => settings.join == Join::None || periods > 1 || rng.once_in(150),
         Kind::Inside => periods > 0 || rng.once_in(4),
         Kind::FarMarks => call.needed[1] > 2,
+        Kind::OneMark => call.needed[1] == 1,
         Kind::Rounding => rounding::shows(voice, call),
         _ => periods > 1,
     }
