@@ -1,2 +1,3 @@
 -- Laws about container's definitions.
 pub mod SectionLaws
+pub mod BackendLaws

@@ -1,5 +1,5 @@
 -- The sections of a file, one step at a time.
-use mathlib.Core.Path.{_≡_, refl, sym, ap, _∙_}
+use mathlib.Core.Path.{_≡_, refl, sym, ap, subst, _∙_}
 use mathlib.Core.Bool.{Bool, true, false, _&&_}
 use mathlib.Core.List.{List, []}
 use Prim.Native.Nat.{ℕ, zero, suc, _+_, _-_, _≤_, _<_}
@@ -7,6 +7,7 @@ use native.Mathlib.Omega.{arith}
 use borrow.Author.Tests.{lt-ltb, le-ltb, lt-leb, le-leb, leb-true}
 use lib.Dec.{ltb, leb}
 use lib.ListN.{length, getD, take, drop}
+use Rattle.base.specs.Choice.{pick}
 use Rattle.base.specs.Lists.{every}
 use Rattle.base.specs.declared.Span.{Span}
 use Rattle.text.specs.Utf8.{utf8}
@@ -14,6 +15,9 @@ use Rattle.text.specs.Names.{same}
 use Rattle.base.proofs.ListLaws.{every-at}
 use Rattle.container.specs.Sections.{Sections, isWhole, sectionName, sectionAt, withSection, sectionsFrom, dataPlace, nextPlace, find}
 use Rattle.container.specs.declared.Found.the-variants.{At, Missing}
+
+missing-at : (s : Span) → Missing ≡ At s → ⊥
+missing-at s e = let z : _≡_ {A = ℕ} 0 1 = cc in omega arith
 
 -- those from a place on
 abbrev pub rest : List ℕ → ℕ → Sections
@@ -113,3 +117,22 @@ module _ (file : List ℕ) where
         → find name (rest file at .list) ≡ find name (rest file (nextPlace file at) .list)
     unfolding find
     find-next at h w e = ap (λ (r : Sections). find name (r .list)) (rest-more at h w) ∙ rw e
+
+    -- a section that is found lies within the file
+    pub found-within : (n at : ℕ) (s : Span) → find name (sectionsFrom n file at .list) ≡ At s → s .at + s .len ≤ length file
+    unfolding find sectionsFrom
+    found-within zero at s e = absurd (missing-at s e)
+    found-within (suc n) at s e = by (ltb at (length file)) (isWhole file at) refl e (found-within n (nextPlace file at) s)
+      where
+        here : (t : Bool) → isWhole file at ≡ true → pick t (At (sectionAt file at .span)) (find name (sectionsFrom n file (nextPlace file at) .list)) ≡ At s
+            → (find name (sectionsFrom n file (nextPlace file at) .list) ≡ At s → s .at + s .len ≤ length file)
+            → s .at + s .len ≤ length file
+        here true w e ih = let q : sectionAt file at .span ≡ s = cc in subst (λ (d : Span). d .at + d .len ≤ length file) q (whole-next at w)
+        here false w e ih = ih e
+
+        by : (t u : Bool) → isWhole file at ≡ u → find name (after t u at (sectionsFrom n file (nextPlace file at)) .list) ≡ At s
+            → (find name (sectionsFrom n file (nextPlace file at) .list) ≡ At s → s .at + s .len ≤ length file)
+            → s .at + s .len ≤ length file
+        by false u w e ih = absurd (missing-at s e)
+        by true false w e ih = absurd (missing-at s e)
+        by true true w e ih = here (same (sectionName file at) name) w e ih

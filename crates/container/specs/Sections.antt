@@ -93,10 +93,14 @@ spanOf Missing = record { at = 0; len = 0 }
 abbrev pub bytesAt : List ℕ → Span → List ℕ
 bytesAt file s = part file (s .at) (s .len)
 
--- `Container::backend` gives `Diphone`: the section `voice.backend` is missing, or is UTF-8 and says so but for white space around it
+-- the bytes are UTF-8 and say `diphone`, but for white space around it
+abbrev pub namesDiphone : List ℕ → Bool
+namesDiphone bs = utf8 bs && same (trim bs) (ascii "diphone")
+
+-- `Container::backend` gives `Diphone`: the section `voice.backend` is missing or says so
 unfoldable pub saysDiphone : List ℕ → Found → Bool
 saysDiphone file Missing = true
-saysDiphone file (At s) = utf8 (bytesAt file s) && same (trim (bytesAt file s)) (ascii "diphone")
+saysDiphone file (At s) = namesDiphone (bytesAt file s)
 
 unfoldable pub isDiphone : List ℕ → Bool
 isDiphone file = saysDiphone file (find (ascii "voice.backend") (sections file .list))

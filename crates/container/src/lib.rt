@@ -2,7 +2,10 @@
 ghost use mathlib.Core.Path.{_≡_};
 ghost use mathlib.Core.Bool.{true};
 ghost use Prim.Native.Nat.{_+_, _<_, _≤_};
-ghost use lib.ListN.{length, getD};
+ghost use lib.ListN.{length, getD, drop};
+ghost use Rattle.base.specs.Text.{ascii};
+ghost use Rattle.text.specs.Names.{same};
+ghost use Rattle.text.specs.Trim.{trimEnd};
 ghost use Rattle.container.specs.Sections as parts;
 use base::Span;
 
@@ -100,4 +103,65 @@ pub fn find(file: &[u8], name: &[u8]) -> Found
         }
     }
     Found::Missing
+}
+
+// Whether a section was found.
+pub fn is_found(found: Found) -> bool
+    ensures { λ r. ⌜ r ≡ parts.isFound found ⌝ }
+{
+    match found {
+        Found::At(_) => true,
+        Found::Missing => false,
+    }
+}
+
+// Where its data stand; nothing where it is missing.
+pub fn span_of(found: Found) -> Span
+    ensures { λ r. ⌜ r ≡ parts.spanOf found ⌝ }
+{
+    match found {
+        Found::At(data) => data,
+        Found::Missing => Span { at: 0, len: 0 },
+    }
+}
+
+// Whether the text from a place on is `diphone`, but for white space after it.
+fn is_diphone_from(s: &[u8], from: usize) -> bool
+    requires { ⌜ from ≤ length (now s) ⌝ }
+    ensures { λ r. ⌜ r ≡ same (trimEnd (drop from (now (s .entry)))) (ascii "diphone") ⌝ }
+{
+    if s.len() - from < 7 {
+        return false;
+    }
+    let name = [100, 105, 112, 104, 111, 110, 101];
+    let end = from + 7;
+    if text::same(&s[from..end], &name) {
+        return text::trim::skip(s, end) == s.len();
+    }
+    false
+}
+
+// Whether the bytes are UTF-8 and say `diphone`, but for white space around it.
+fn names_diphone(s: &[u8]) -> bool
+    ensures { λ r. ⌜ r ≡ parts.namesDiphone (now (s .entry)) ⌝ }
+{
+    if text::utf8(s) {
+        return is_diphone_from(s, text::trim::skip(s, 0));
+    }
+    false
+}
+
+// Whether `Container::backend` gives `Diphone`.
+pub fn is_diphone(file: &[u8]) -> bool
+    ensures { λ r. ⌜ r ≡ parts.isDiphone (now (file .entry)) ⌝ }
+{
+    let name = [118, 111, 105, 99, 101, 46, 98, 97, 99, 107, 101, 110, 100];
+    match find(file, &name) {
+        Found::At(data) => {
+            let from = data.at;
+            let end = from + data.len;
+            names_diphone(&file[from..end])
+        }
+        Found::Missing => true,
+    }
 }

@@ -10,21 +10,34 @@ use Rattle.text.specs.Names.{same}
 abbrev pub within : ℕ → ℕ → ℕ → Bool
 within lo hi b = leb lo b && leb b hi
 
--- how many bytes the white space character at the front of a text has, 0 where there is none: U+0009 to U+000D and U+0020;
--- U+0085, U+00A0; U+1680, U+2000 to U+200A, U+2028, U+2029, U+202F, U+205F, U+3000
+-- the white space characters: U+0009 to U+000D and U+0020 of one byte
+abbrev pub oneByte : ℕ → Bool
+oneByte a = within 0x09 0x0D a || eqb a 0x20
+
+-- U+0085 and U+00A0 of two
+abbrev pub twoBytes : ℕ → ℕ → Bool
+twoBytes a b = eqb a 0xC2 && (eqb b 0x85 || eqb b 0xA0)
+
+-- U+2000 to U+200A, U+2028, U+2029, U+202F and U+205F, all of which begin with E2, by their second and third byte
+abbrev pub ends2000 : ℕ → Bool
+ends2000 c = within 0x80 0x8A c || (eqb c 0xA8 || (eqb c 0xA9 || eqb c 0xAF))
+
+abbrev pub afterE2 : ℕ → ℕ → Bool
+afterE2 b c = (eqb b 0x80 && ends2000 c) || (eqb b 0x81 && eqb c 0x9F)
+
+-- these, U+1680 and U+3000 of three
+abbrev pub threeBytes : ℕ → ℕ → ℕ → Bool
+threeBytes a b c =
+    (eqb a 0xE1 && (eqb b 0x9A && eqb c 0x80))
+    || ((eqb a 0xE2 && afterE2 b c) || (eqb a 0xE3 && (eqb b 0x80 && eqb c 0x80)))
+
+-- how many bytes the white space character at the front of a text has, 0 where there is none
 unfoldable pub spaceAt : List ℕ → ℕ
 spaceAt bs =
     let a = getD bs 0 0 in
     let b = getD bs 1 0 in
     let c = getD bs 2 0 in
-    pick (within 0x09 0x0D a || eqb a 0x20) 1
-    (pick (eqb a 0xC2 && (eqb b 0x85 || eqb b 0xA0)) 2
-    (pick
-    ((eqb a 0xE1 && eqb b 0x9A && eqb c 0x80)
-    || (eqb a 0xE2 && eqb b 0x80 && (within 0x80 0x8A c || eqb c 0xA8 || eqb c 0xA9 || eqb c 0xAF))
-    || (eqb a 0xE2 && eqb b 0x81 && eqb c 0x9F)
-    || (eqb a 0xE3 && eqb b 0x80 && eqb c 0x80))
-    3 0))
+    pick (oneByte a) 1 (pick (twoBytes a b) 2 (pick (threeBytes a b c) 3 0))
 
 -- without the white space at the front; at most n characters of it
 unfoldable pub trimStartBy : ℕ → List ℕ → List ℕ

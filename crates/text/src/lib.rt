@@ -1,4 +1,6 @@
 // Names: UTF-8, white space around them, their order.
+pub mod trim;
+
 ghost use mathlib.Core.Path.{_≡_};
 ghost use lib.Dec.{eqb};
 ghost use Rattle.base.specs.Choice.{pick};

@@ -4,17 +4,11 @@ use native.Mathlib.Omega.{arith}
 use Prim.Native.Nat.{_+_, _-_}
 use lib.ListN.{length}
 use Rattle.base.specs.declared.Span.{Span}
-use Rattle.text.specs.Names.{same}
 use Rattle.container.specs.Sections.{find, sections}
 use Rattle.container.specs.declared.Found.the-variants.{At}
 use Rattle.container.proofs.SectionLaws.{rest, same-name, find-done, find-cut, find-here, find-next}
 use Rattle.container.proofs.find.Statement.{statement}
 use Rattle.container.proofs.find.Tie as tie
-use Rattle.container.proofs.find.Reads as reads
-use Rattle.container.proofs.find.Lts as lts
-use Rattle.container.proofs.data_of.Reads as data-of-reads
-use Rattle.container.proofs.is_whole.Reads as is-whole-reads
-use Rattle.text.proofs.same.Reads as same-reads
 
 abbrev Inv-loop : tie.InvT-loop
 Inv-loop file name at₀ at = find name (rest file at .list) ≡ find name (rest file at₀ .list)

@@ -8,10 +8,6 @@ use Rattle.container.specs.Sections.{Sections, sections}
 use Rattle.container.proofs.SectionLaws.{rest, rest-done, rest-cut, rest-more}
 use Rattle.container.proofs.has_whole_sections.Statement.{statement}
 use Rattle.container.proofs.has_whole_sections.Tie as tie
-use Rattle.container.proofs.has_whole_sections.Reads as reads
-use Rattle.container.proofs.has_whole_sections.Lts as lts
-use Rattle.container.proofs.data_of.Reads as data-of-reads
-use Rattle.container.proofs.is_whole.Reads as is-whole-reads
 
 abbrev Inv-loop : tie.InvT-loop
 Inv-loop file at₀ at = rest file at .whole ≡ rest file at₀ .whole

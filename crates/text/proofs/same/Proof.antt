@@ -3,9 +3,6 @@ use Rattle.text.proofs.NameLaws.{isSame, same-order}
 use borrow.Author.Needs.{needs}
 use Rattle.text.proofs.same.Statement.{statement}
 use Rattle.text.proofs.same.Tie as tie
-use Rattle.text.proofs.same.Reads as reads
-use Rattle.text.proofs.same.Lts as lts
-use Rattle.text.proofs.compare.Reads as compare-reads
 
 compare-requires : tie.Need-compare-requires
 compare-requires c κs = search needs
