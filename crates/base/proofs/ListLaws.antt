@@ -28,6 +28,20 @@ pub every-cons : (t : Bool) (ts : List Bool) → t ≡ true → every ts ≡ tru
 unfolding every
 every-cons t ts e f = rw (e, f)
 
+-- one test after the other
+pub every-pass : (t : Bool) (ts : List Bool) → t ≡ true → every (t ∷ ts) ≡ every ts
+unfolding every
+every-pass t ts e = rw e
+
+pub every-fail : (t : Bool) (ts : List Bool) → t ≡ false → every (t ∷ ts) ≡ false
+unfolding every
+every-fail t ts e = rw e
+
+pub every-one : (t : Bool) → every (t ∷ []) ≡ t
+unfolding every
+every-one true = refl
+every-one false = refl
+
 -- each test passes, by its place
 pub every-at : (ts : List Bool) → every ts ≡ true → (k : ℕ) → getD ts k true ≡ true
 unfolding every

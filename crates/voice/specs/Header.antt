@@ -40,22 +40,18 @@ codecNumber G721 = 1
 abbrev pub codecOf : VoiceHeader → Codec
 codecOf h = pick (eqb (h .codec) (codecNumber Ulaw)) Ulaw G721
 
--- finite, from -16 to 16 (a float `fin s m e` is m × 2 ^ e, negative where s is true); a NaN is in no order
+-- a scale is finite, from -16 to 16 (a float `fin s m e` is m × 2 ^ e, negative where s is true); a NaN is in no order
 unfoldable pub inScale : Float → Bool
 inScale x = le (fin true 1 (pos 4)) x && le x (fin false 1 (pos 4))
 
--- The limits: not cut short; frames at least 1; order 0 to 32; rate 1 to 48,000; coeff_min and coeff_range finite, from -16 to 16;
--- a known codec.
+-- 'Limits, added to the Rust': frames at least 1; order 0 to 32; rate 1 to 48,000; a known codec
+unfoldable pub goodNumbers : VoiceHeader → Bool
+goodNumbers h = every (leb 1 (h .frames) ∷ leb (h .order) 32 ∷ leb 1 (h .rate) ∷ leb (h .rate) 48000 ∷ leb (h .codec) 1 ∷ [])
+
+-- coeff_min and coeff_range finite, from -16 to 16
+unfoldable pub goodScales : VoiceHeader → Bool
+goodScales h = inScale (h .«coeff_min») && inScale (h .«coeff_range»)
+
+-- 5: not cut short, and within the limits
 unfoldable pub goodHeader : List ℕ → Bool
-goodHeader bs =
-    let h = headerOf bs in
-    every
-    (leb 40 (length bs)
-    ∷ leb 1 (h .frames)
-    ∷ leb (h .order) 32
-    ∷ leb 1 (h .rate)
-    ∷ leb (h .rate) 48000
-    ∷ inScale (h .«coeff_min»)
-    ∷ inScale (h .«coeff_range»)
-    ∷ leb (h .codec) 1
-    ∷ [])
+goodHeader bs = let h = headerOf bs in every (leb 40 (length bs) ∷ goodNumbers h ∷ goodScales h ∷ [])

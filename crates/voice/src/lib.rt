@@ -1,4 +1,5 @@
 // A diphone voice: its header, its tables and its index.
+pub mod header;
 use base::Span;
 use container::Found;
 use refusal::Refusal;
