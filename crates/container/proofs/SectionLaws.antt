@@ -13,7 +13,8 @@ use Rattle.base.specs.declared.Span.{Span}
 use Rattle.text.specs.Utf8.{utf8}
 use Rattle.text.specs.Names.{same}
 use Rattle.base.proofs.ListLaws.{every-at}
-use Rattle.container.specs.Sections.{Sections, isWhole, sectionName, sectionAt, withSection, sectionsFrom, dataPlace, nextPlace, find}
+use Rattle.container.specs.Sections.{Sections, isWhole, sectionName, sectionAt, withSection, sectionsFrom, dataPlace, nextPlace, sections, find, spanOf}
+use Rattle.container.specs.declared.Found.{Found}
 use Rattle.container.specs.declared.Found.the-variants.{At, Missing}
 
 missing-at : (s : Span) → Missing ≡ At s → ⊥
@@ -136,3 +137,11 @@ module _ (file : List ℕ) where
         by false u w e ih = absurd (missing-at s e)
         by true false w e ih = absurd (missing-at s e)
         by true true w e ih = here (same (sectionName file at) name) w e ih
+
+    pub section-within : let d = spanOf (find name (sections file .list)) in d .at + d .len ≤ length file
+    unfolding sections
+    section-within = by (find name (sections file .list)) refl
+      where
+        by : (f : Found) → find name (sections file .list) ≡ f → spanOf f .at + spanOf f .len ≤ length file
+        by Missing e = omega arith
+        by (At d) e = found-within (length file) 8 d e

@@ -18,7 +18,7 @@ use Rattle.container.specs.Sections.{magic, hasMagic, isWhole, sectionsFrom, se
 use Rattle.voice.specs.Header.{headerOf, inScale, goodNumbers, goodScales, goodHeader}
 use Rattle.voice.specs.Voice.{entryAt, wholeEntry, entriesFrom, voiceAt, placesOf, voiceOf, lookup, insert, sort, sorted, sortedIndex}
 use Rattle.voice.specs.Periods.{offset, residualOf, samplesOf, samplesFrom, rowOf, longest}
-use Rattle.voice.specs.Opening.{indexFits, hasNeeded, rising, goodTables, withinFrames, distinct, goodIndex, openingRefusal}
+use Rattle.voice.specs.Opening.{indexFits, hasNeeded, risingIn, goodTables, withinFrames, distinct, goodIndex, openingRefusal}
 use Rattle.sheet.specs.Sheet.{_andThen_, groups, count, printable, name, isFinite, finite, valueOf, value, asF32, segment, target, repeated, sheetFrom, sheetRefusal, sheetOf}
 use Rattle.phoneset.specs.Phones.{vowels, consonants, vc, isVowel}
 use Rattle.units.specs.Selecting.{foldName, folded, nameOf, inCluster, firstTried, entryOf}
@@ -56,12 +56,12 @@ table =
 
 -- the printed example
 pub printed : Printed
-unfolding exampleVoice over flat upto littleEndian bytesOf every firstFailing low narrow same before among lead step waits complete utf8 spaceAt trimStartBy trimStart trimEnd trim magic hasMagic isWhole sectionsFrom sections find saysDiphone isDiphone headerOf inScale goodNumbers goodScales goodHeader entryAt wholeEntry entriesFrom voiceAt placesOf voiceOf lookup insert sort sorted sortedIndex offset residualOf samplesOf samplesFrom rowOf longest hasNeeded rising goodTables withinFrames distinct goodIndex openingRefusal _andThen_ groups count printable name isFinite finite valueOf value asF32 segment target repeated sheetFrom sheetRefusal sheetOf vowels consonants vc isVowel foldName folded nameOf inCluster firstTried entryOf samplesAt midway unitsOfPair unitsFrom unitsAll endRefusal f0At goesOn nextTime markAt climb slopeOf climbTo marksFrom pitchMarks marksOfPeriods naturalMarks naturalUnits markRefusal decodedBy sourceBy sourceOf centred nearestFrom nearestPeriod paceOf placeAfterSize periodOf takeUnit takenFrom taken cut outputs samples periodsFrom scaledBy rowValue fixedSum divided fixedNext fixedFilter freshState periodsBy simplePlan planBy planOf periodsTaken sizesOf rowsOf excitationOf periodsOf decodedOver filled decodeRoom indexFits fits checkRefusal callRefusal summaryOf plannedOf sampleOf quantisedValue add sub mul div lt le ne ofBits ofInt toUnsigned toSigned
+unfolding exampleVoice over flat upto littleEndian bytesOf every firstFailing low narrow same before among lead step waits complete utf8 spaceAt trimStartBy trimStart trimEnd trim magic hasMagic isWhole sectionsFrom sections find saysDiphone isDiphone headerOf inScale goodNumbers goodScales goodHeader entryAt wholeEntry entriesFrom voiceAt placesOf voiceOf lookup insert sort sorted sortedIndex offset residualOf samplesOf samplesFrom rowOf longest hasNeeded risingIn goodTables withinFrames distinct goodIndex openingRefusal _andThen_ groups count printable name isFinite finite valueOf value asF32 segment target repeated sheetFrom sheetRefusal sheetOf vowels consonants vc isVowel foldName folded nameOf inCluster firstTried entryOf samplesAt midway unitsOfPair unitsFrom unitsAll endRefusal f0At goesOn nextTime markAt climb slopeOf climbTo marksFrom pitchMarks marksOfPeriods naturalMarks naturalUnits markRefusal decodedBy sourceBy sourceOf centred nearestFrom nearestPeriod paceOf placeAfterSize periodOf takeUnit takenFrom taken cut outputs samples periodsFrom scaledBy rowValue fixedSum divided fixedNext fixedFilter freshState periodsBy simplePlan planBy planOf periodsTaken sizesOf rowsOf excitationOf periodsOf decodedOver filled decodeRoom indexFits fits checkRefusal callRefusal summaryOf plannedOf sampleOf quantisedValue add sub mul div lt le ne ofBits ofInt toUnsigned toSigned
 printed = record { summary = refl; periods = refl; buffers = refl }
 
 -- the edges
 pub edges : Edges
-unfolding exampleVoice segmentsOf over flat upto littleEndian bytesOf every firstFailing low narrow same before among lead step waits complete utf8 spaceAt trimStartBy trimStart trimEnd trim magic hasMagic isWhole sectionsFrom sections find saysDiphone isDiphone headerOf inScale goodNumbers goodScales goodHeader entryAt wholeEntry entriesFrom voiceAt placesOf voiceOf lookup insert sort sorted sortedIndex offset residualOf samplesOf samplesFrom rowOf longest hasNeeded rising goodTables withinFrames distinct goodIndex openingRefusal _andThen_ groups count printable name isFinite finite valueOf value asF32 segment target repeated sheetFrom sheetRefusal sheetOf markRefusal le ofBits
+unfolding exampleVoice segmentsOf over flat upto littleEndian bytesOf every firstFailing low narrow same before among lead step waits complete utf8 spaceAt trimStartBy trimStart trimEnd trim magic hasMagic isWhole sectionsFrom sections find saysDiphone isDiphone headerOf inScale goodNumbers goodScales goodHeader entryAt wholeEntry entriesFrom voiceAt placesOf voiceOf lookup insert sort sorted sortedIndex offset residualOf samplesOf samplesFrom rowOf longest hasNeeded risingIn goodTables withinFrames distinct goodIndex openingRefusal _andThen_ groups count printable name isFinite finite valueOf value asF32 segment target repeated sheetFrom sheetRefusal sheetOf markRefusal le ofBits
 edges = record { orders = (refl, refl); segments = (refl, refl); marks = (refl, refl) }
 
 -- the errors

@@ -3,3 +3,4 @@ pub mod EntryLaws
 pub mod PeriodLaws
 pub mod OpeningLaws
 pub mod LowLaws
+pub mod TableLaws

@@ -19,7 +19,7 @@ use Rattle.base.proofs.BufferLaws.{upto-same}
 use Rattle.base.proofs.ByteLaws.{littleEndian-same}
 use Rattle.voice.specs.Voice.{Voice}
 use Rattle.voice.specs.Periods.{offset, gap, residualOf, sizedBy, samplesOf, samplesFrom, rowOf}
-use Rattle.voice.specs.Opening.{rising}
+use Rattle.voice.specs.Opening.{risingIn, rising}
 use Rattle.voice.specs.Extends.{Extends, SameSizes, neither, both}
 
 -- ---- lists that agree in their first k elements
@@ -42,7 +42,7 @@ part-agree k a b e s m h =
 -- ---- offsets that do not fall
 
 pub rising-le : (v : Voice) (n : ℕ) → rising v n ≡ true → (i : ℕ) → i ≤ n → offset v i ≤ offset v n
-unfolding rising
+unfolding risingIn offset
 rising-le v zero e i h = let z : i ≡ 0 = omega arith in rw z (le-refl _)
 rising-le v (suc n) e i h = ⊎-elim (λ q. rw q (le-refl _)) (λ l. lower (rising-le v n (and-right (leb (offset v n) (offset v (suc n))) (rising v n) e) i (le-of-suc-le-suc l))) (eq-or-lt-of-le h)
   where

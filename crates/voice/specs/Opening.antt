@@ -1,4 +1,5 @@
 -- Document 01, 'Refused calls': what opening a voice file checks, 1 to 7 in order.
+use mathlib.Core.Path.{_≡_}
 use mathlib.Core.Bool.{Bool, true, false, _&&_, not}
 use mathlib.Core.List.{List, [], _∷_}
 use mathlib.Core.Option.{Option, none, some}
@@ -9,10 +10,12 @@ use Rattle.base.specs.Choice.{pick}
 use Rattle.base.specs.Text.{ascii}
 use Rattle.base.specs.Lists.{every, firstFailing, orNext}
 use Rattle.base.specs.Buffers.{over, flat}
-use Rattle.base.specs.Bytes.{bytesOf}
+use Rattle.base.specs.Bytes.{bytesOf, u32At}
 use Rattle.refusal.specs.declared.Refusal.{Refusal}
 use Rattle.refusal.specs.declared.Refusal.the-variants.{BadMagic, SectionCut, NotDiphone, MissingSection, BadHeader, BadTables, BadIndex, ShortBuffer}
 use Rattle.refusal.specs.Number.{numberOf}
+use Rattle.container.specs.declared.Found.{Found}
+use Rattle.container.specs.declared.Found.the-variants.{At, Missing}
 use Rattle.container.specs.Sections.{Section, hasMagic, sections, find, isFound, spanOf, bytesAt, isDiphone}
 use Rattle.voice.specs.declared.DiphoneVoice.{DiphoneVoice}
 use Rattle.voice.specs.declared.Opened.{Opened}
@@ -33,13 +36,21 @@ hasNeeded ss =
     ∷ [])
 
 -- 6: the first n + 1 offsets do not fall
-unfoldable pub rising : Voice → ℕ → Bool
-rising v zero = true
-rising v (suc n) = leb (offset v n) (offset v (suc n)) && rising v n
+unfoldable pub risingIn : List ℕ → ℕ → Bool
+risingIn offsets zero = true
+risingIn offsets (suc n) = leb (u32At offsets n) (u32At offsets (suc n)) && risingIn offsets n
+
+abbrev pub rising : Voice → ℕ → Bool
+rising v n = risingIn (v .offsets) n
 
 abbrev pub longEnough : Option (List ℕ) → ℕ → Bool
 longEnough none n = true
 longEnough (some bs) n = leb n (length bs)
+
+-- the same by the section's place
+abbrev pub hasSizes : Found → ℕ → Bool
+hasSizes (At s) n = leb n (s .len)
+hasSizes Missing n = true
 
 -- 6: `sts.res` has at most 16,777,215 bytes; `sts.lpc` at least frames × order × 2, `sts.ressize` frames and `sts.resoffs` (frames + 1) × 4;
 -- the first frames + 1 offsets do not fall, and the last is not past the residual
@@ -98,6 +109,11 @@ openingRefusal file =
     ∷ (goodTables (voiceOf file), BadTables)
     ∷ (goodIndex file, BadIndex)
     ∷ [])
+
+-- a voice file that opens, and where its tables stand
+pub record IsOpen (file : List ℕ) (d : DiphoneVoice) : Type 0 where
+  pub places : d ≡ placesOf file
+  pub fit : openingRefusal file ≡ none
 
 -- 13: an index buffer of n bytes has 8 for each entry
 unfoldable pub indexFits : Voice → ℕ → Bool

@@ -1,5 +1,6 @@
 // A diphone voice: its header, its tables and its index.
 pub mod header;
+pub mod tables;
 use base::Span;
 use container::Found;
 use refusal::Refusal;
