@@ -5,11 +5,11 @@ use Prim.Native.Nat.{ℕ, zero, suc, _+_, _*_, _/_, _%_, _^_, _≤_, _<_}
 use native.Mathlib.Nat.{zero-add, suc-add, add-suc, add-zero, mul-zero, mul-suc, mul-comm, mul-assoc, mul-add, pow-suc, pow-succ', mod-one, mod-lt, mod-eq-of-lt, div-one, div-add-mod, div-div-eq-div-mul, add-mul-mod-self-left, mul-pos, mul-le-mul-left, lt-of-lt-of-le, mul-div-cancel-left}
 use native.Mathlib.Omega.{arith}
 use lib.ListN.{length, take, drop, getD}
-use lib.Seq.{sets, sets-eq, drop-cons, drop-at, length-take-le, getD-drop}
-use Rattle.base.specs.Buffers.{flat}
+use lib.Seq.{sets, sets-eq, drop-cons, drop-at, drop-drop, take-add, length-take-le, getD-drop}
+use Rattle.base.specs.Buffers.{flat, upto}
 use Rattle.base.specs.Bytes.{Bytes, littleEndian, bytesOf, elements}
 use Rattle.base.specs.Lists.{part}
-use Rattle.base.proofs.BufferLaws.{sets-append, length-flat, upto-is}
+use Rattle.base.proofs.BufferLaws.{sets-append, length-flat, flat-snoc, upto-is}
 use Rattle.base.proofs.ListLaws.{getD-part}
 
 pub power-pos : (k : ℕ) → 0 < 256 ^ k
@@ -151,3 +151,12 @@ module _ (s : List ℕ) (small : Bytes s) where
       let m : (getD s at 0 + 256 * n) % 256 ≡ getD s at 0 = omega (arith, small at) in
       let d : (getD s at 0 + 256 * n) / 256 ≡ n = omega (arith, small at) in
       rw (drop-cons s at 0 l, m, d) (ap (λ (r : List ℕ). getD s at 0 ∷ r) (bytesOf-littleEndian k (suc at) (omega arith)))
+
+  -- n elements read one after the other
+  pub flat-read : (k at n : ℕ) → at + k * n ≤ length s → flat (bytesOf k) (upto (λ i. littleEndian k s (at + k * i)) n) ≡ take (k * n) (drop at s)
+  unfolding flat upto
+  flat-read k at zero h = rw mul-zero
+  flat-read k at (suc n) h =
+      let m : at + (k * n + k) ≤ length s = rw mul-suc at h in
+      flat-snoc (bytesOf k) (upto (λ i. littleEndian k s (at + k * i)) n) (littleEndian k s (at + k * n))
+      ∙ rw (flat-read k at n (omega arith), bytesOf-littleEndian k (at + k * n) (omega arith), ← drop-drop (k * n) at s, ← take-add (k * n) k (drop at s), mul-suc k n)

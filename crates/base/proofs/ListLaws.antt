@@ -3,8 +3,8 @@ use mathlib.Core.Path.{_≡_, refl, sym, ap, _∙_}
 use mathlib.Core.Bool.{Bool, true, false, _&&_}
 use mathlib.Core.List.{List, [], _∷_, _++_, append-assoc, append-nil}
 use Prim.Native.Nat.{ℕ, zero, suc, _+_, _≤_, _<_}
-use lib.ListN.{length, drop, getD, length-drop}
-use lib.Seq.{getD-take, getD-drop, length-take-le}
+use lib.ListN.{length, take, drop, getD, length-drop}
+use lib.Seq.{getD-take, getD-drop, length-take-le, take-take, drop-drop}
 use native.Mathlib.Omega.{arith}
 use mathlib.Core.Option.{Option, none, some}
 use Rattle.base.specs.Lists.{every, firstFailing, orNext, part, Heads}
@@ -82,6 +82,16 @@ module _ {A : Type 0} where
 
   pub length-part : (s : List A) (at n : ℕ) → at + n ≤ length s → length (part s at n) ≡ n
   length-part s at n h = length-take-le n (drop at s) (rw length-drop (omega arith))
+
+  -- a part of a part
+  part-take : (l : List A) (n i m : ℕ) → i + m ≤ n → part (take n l) i m ≡ part l i m
+  part-take l n zero m h = take-take m n l (omega arith)
+  part-take l zero (suc i) m h = absurd (omega arith)
+  part-take [] (suc n) (suc i) m h = refl
+  part-take (x ∷ l) (suc n) (suc i) m h = part-take l n i m (omega arith)
+
+  pub part-part : (s : List A) (at n i m : ℕ) → i + m ≤ n → part (part s at n) i m ≡ part s (at + i) m
+  part-part s at n i m h = part-take (drop at s) n i m h ∙ ap (take m) (drop-drop i at s)
 
 -- ---- a list that begins with another
 

@@ -4,3 +4,4 @@ pub mod PeriodLaws
 pub mod OpeningLaws
 pub mod LowLaws
 pub mod TableLaws
+pub mod OpenLaws

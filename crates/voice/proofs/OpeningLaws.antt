@@ -5,10 +5,34 @@ use mathlib.Core.List.{List}
 use mathlib.Core.Option.{none}
 use Prim.Native.Nat.{ℕ, _≤_}
 use borrow.Author.Tests.{leb-true}
+use Rattle.base.specs.Text.{ascii}
 use Rattle.base.proofs.ListLaws.{and-left, and-right, every-at, failing-none}
+use Rattle.container.specs.Sections.{hasMagic, sections, isDiphone, find, spanOf, bytesAt}
 use Rattle.voice.specs.Header.{inScale, goodNumbers, goodScales, goodHeader}
 use Rattle.voice.specs.Voice.{Voice, voiceAt, voiceOf, placesOf}
-use Rattle.voice.specs.Opening.{rising, goodTables, withinFrames, distinct, goodIndex, openingRefusal}
+use Rattle.voice.specs.Opening.{hasNeeded, rising, goodTables, withinFrames, distinct, goodIndex, openingRefusal}
+
+-- 1 to 7 pass
+pub record Passed (file : List ℕ) : Type 0 where
+  pub magic : hasMagic file ≡ true
+  pub whole : sections file .whole ≡ true
+  pub backend : isDiphone file ≡ true
+  pub needed : hasNeeded (sections file .list) ≡ true
+  pub header : goodHeader (bytesAt file (spanOf (find (ascii "sts.header") (sections file .list)))) ≡ true
+  pub tables : goodTables (voiceOf file) ≡ true
+  pub index : goodIndex file ≡ true
+
+pub passed : (file : List ℕ) → openingRefusal file ≡ none → Passed file
+unfolding openingRefusal
+passed file e =
+    let a = failing-none _ _ _ e in
+    let b = failing-none _ _ _ (a .1) in
+    let c = failing-none _ _ _ (b .1) in
+    let d = failing-none _ _ _ (c .1) in
+    let h = failing-none _ _ _ (d .1) in
+    let t = failing-none _ _ _ (h .1) in
+    let i = failing-none _ _ _ (t .1) in
+    record { magic = a .0; whole = b .0; backend = c .0; needed = d .0; header = h .0; tables = t .0; index = i .0 }
 
 pub record Opens (v : Voice) : Type 0 where
   pub someFrames : 1 ≤ v .header .frames
@@ -20,23 +44,17 @@ pub record Opens (v : Voice) : Type 0 where
   pub entriesEnd : withinFrames (v .header .frames) (v .entries) ≡ true
 
 pub opens : (file : List ℕ) → openingRefusal file ≡ none → Opens (voiceOf file)
-unfolding openingRefusal goodNumbers goodScales goodHeader goodTables goodIndex voiceOf voiceAt placesOf
+unfolding goodNumbers goodScales goodHeader goodTables goodIndex voiceOf voiceAt placesOf
 opens file e =
-    let a = failing-none _ _ _ e in
-    let b = failing-none _ _ _ (a .1) in
-    let c = failing-none _ _ _ (b .1) in
-    let d = failing-none _ _ _ (c .1) in
-    let header = failing-none _ _ _ (d .1) in
-    let tables = failing-none _ _ _ (header .1) in
-    let index = failing-none _ _ _ (tables .1) in
-    let numbers = every-at _ (header .0) 1 in
-    let scales = every-at _ (header .0) 2 in
+    let p = passed file e in
+    let numbers = every-at _ (p .header) 1 in
+    let scales = every-at _ (p .header) 2 in
     record {
       someFrames = leb-true 1 _ (every-at _ numbers 0);
       orderLow = leb-true _ 32 (every-at _ numbers 1);
       leastIn = and-left _ _ scales;
       rangeIn = and-right (inScale (voiceOf file .header .«coeff_min»)) _ scales;
-      offsetsRise = every-at _ (tables .0) 4;
-      namesDiffer = every-at _ (index .0) 3;
-      entriesEnd = every-at _ (index .0) 4;
+      offsetsRise = every-at _ (p .tables) 4;
+      namesDiffer = every-at _ (p .index) 3;
+      entriesEnd = every-at _ (p .index) 4;
     }

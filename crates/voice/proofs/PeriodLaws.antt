@@ -49,6 +49,14 @@ rising-le v (suc n) e i h = ⊎-elim (λ q. rw q (le-refl _)) (λ l. lower (risi
     lower : offset v i ≤ offset v n → offset v i ≤ offset v (suc n)
     lower a = let b : offset v n ≤ offset v (suc n) = leb-true (offset v n) (offset v (suc n)) (and-left (leb (offset v n) (offset v (suc n))) (rising v n) e) in omega arith
 
+pub rising-upto : (v : Voice) (n : ℕ) → rising v n ≡ true → (i : ℕ) → i < n → offset v i ≤ offset v (suc i)
+unfolding risingIn offset
+rising-upto v zero e i h = absurd (omega arith)
+rising-upto v (suc n) e i h = ⊎-elim here (rising-upto v n (and-right (leb (offset v n) (offset v (suc n))) (rising v n) e) i) (eq-or-lt-of-le (le-of-suc-le-suc h))
+  where
+    here : i ≡ n → offset v i ≤ offset v (suc i)
+    here q = rw q (leb-true (offset v n) (offset v (suc n)) (and-left (leb (offset v n) (offset v (suc n))) (rising v n) e))
+
 -- ---- two voices with the same first n periods
 
 pub record Agree (v w : Voice) (n : ℕ) : Type 0 where

@@ -18,7 +18,7 @@ use Rattle.base.specs.declared.Span.{Span}
 use Rattle.base.proofs.ListLaws.{length-part, every-at}
 use Rattle.container.specs.declared.Found.{Found}
 use Rattle.container.specs.declared.Found.the-variants.{At, Missing}
-use Rattle.container.specs.Sections.{find, spanOf, sections, bytesAt}
+use Rattle.container.specs.Sections.{sections, bytesAt}
 use Rattle.container.proofs.SectionLaws.{section-within, found-within}
 use Rattle.voice.specs.declared.DiphoneVoice.{DiphoneVoice}
 use Rattle.voice.specs.declared.VoiceHeader.{VoiceHeader}
@@ -53,6 +53,18 @@ risen-fails os i (suc n) h l = ⊎-elim here (λ k. there (risen-fails os i n k 
     there e = ap (λ (t : Bool). leb (u32At os n) (u32At os (suc n)) && t) e ∙ last (leb (u32At os n) (u32At os (suc n)))
 
 -- ---- where the tables stand
+
+-- the checks of the tables, by their places
+abbrev pub tableTests : List ℕ → DiphoneVoice → List Bool
+tableTests file d =
+    let n = d .header .frames in
+    leb (d .residual .len) 16777215
+    ∷ leb (n * d .header .order * 2) (d .lpc .len)
+    ∷ hasSizes (d .sizes) n
+    ∷ leb ((n + 1) * 4) (d .offsets .len)
+    ∷ risingIn (bytesAt file (d .offsets)) n
+    ∷ leb (u32At (bytesAt file (d .offsets)) n) (d .residual .len)
+    ∷ []
 
 module _ (file : List ℕ) (d : DiphoneVoice) (p : d ≡ placesOf file) where
   -- within the file
@@ -114,21 +126,9 @@ module _ (file : List ℕ) (d : DiphoneVoice) (p : d ≡ placesOf file) where
       by Missing e = refl
       by (At s) e = ap (leb n) (length-part file (s .at) (s .len) (sizes-within s e))
 
-  -- the checks of the tables, by their places
-  abbrev frames : ℕ
-  frames = d .header .frames
-
-  pub tables-are : goodTables (voiceOf file)
-      ≡ every
-      (leb (d .residual .len) 16777215
-      ∷ leb (frames * d .header .order * 2) (d .lpc .len)
-      ∷ hasSizes (d .sizes) frames
-      ∷ leb ((frames + 1) * 4) (d .offsets .len)
-      ∷ risingIn (bytesAt file (d .offsets)) frames
-      ∷ leb (u32At (bytesAt file (d .offsets)) frames) (d .residual .len)
-      ∷ [])
+  pub tables-are : goodTables (voiceOf file) ≡ every (tableTests file d)
   unfolding goodTables offset
-  tables-are = rw (residual-length, lpc-length, offsets-length, offsets-is, header-is, sizes-enough frames)
+  tables-are = rw (residual-length, lpc-length, offsets-length, offsets-is, header-is, sizes-enough (d .header .frames))
 
 -- a header within its limits has an order that makes no product too large
 pub order-low : (h : VoiceHeader) → goodNumbers h ≡ true → h .frames * h .order ≤ h .frames * 32

@@ -1,6 +1,9 @@
 // A diphone voice: its header, its tables and its index.
 pub mod header;
+pub mod periods;
+pub mod sections;
 pub mod tables;
+
 use base::Span;
 use container::Found;
 use refusal::Refusal;

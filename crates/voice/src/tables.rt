@@ -6,8 +6,8 @@ ghost use lib.ListN.{length};
 ghost use Rattle.voice.specs.Header.{goodNumbers};
 ghost use Rattle.voice.specs.Voice.{placesOf, voiceOf};
 ghost use Rattle.voice.specs.Opening as opening;
-use container::Found;
 use super::DiphoneVoice;
+use container::Found;
 
 // Whether the first n + 1 offsets do not fall.
 fn is_rising(offsets: &[u8], n: usize) -> bool

@@ -1,12 +1,9 @@
 use Rattle.voice.specs.Header.{goodNumbers}
-use mathlib.Core.Path.{_≡_, refl, sym, ap, _∙_}
+use mathlib.Core.Path.{sym, _∙_}
 use borrow.Author.Tests.{lt-leb, le-leb}
-use Rattle.base.specs.Lists.{every}
 use Rattle.base.proofs.ListLaws.{every-pass, every-fail, every-one}
 use Rattle.voice.proofs.header.has_good_numbers.Statement.{statement}
 use Rattle.voice.proofs.header.has_good_numbers.Tie as tie
-use Rattle.voice.proofs.header.has_good_numbers.Reads as reads
-use Rattle.voice.proofs.header.has_good_numbers.Lts as lts
 
 returns : tie.Need-returns
 unfolding goodNumbers

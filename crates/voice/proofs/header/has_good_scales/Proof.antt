@@ -1,11 +1,8 @@
 use Rattle.voice.specs.Header.{goodScales}
-use mathlib.Core.Path.{_≡_, refl, sym, ap, _∙_}
+use mathlib.Core.Path.{sym, _∙_}
 use borrow.Author.Needs.{needs}
 use Rattle.voice.proofs.header.has_good_scales.Statement.{statement}
 use Rattle.voice.proofs.header.has_good_scales.Tie as tie
-use Rattle.voice.proofs.header.has_good_scales.Reads as reads
-use Rattle.voice.proofs.header.has_good_scales.Lts as lts
-use Rattle.voice.proofs.header.in_scale.Reads as in-scale-reads
 
 in-scale-requires : tie.Need-in-scale-requires
 in-scale-requires c κs = search needs

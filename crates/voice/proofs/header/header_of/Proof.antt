@@ -2,10 +2,6 @@ use Rattle.voice.specs.Header.{headerOf}
 use borrow.Author.Needs.{needs}
 use Rattle.voice.proofs.header.header_of.Statement.{statement}
 use Rattle.voice.proofs.header.header_of.Tie as tie
-use Rattle.voice.proofs.header.header_of.Reads as reads
-use Rattle.voice.proofs.header.header_of.Lts as lts
-use Rattle.base.proofs.bytes.u32_at.Reads as u32-at-reads
-use Rattle.voice.proofs.header.read_f32.Reads as read-f32-reads
 
 u32-at-requires : tie.Need-u32-at-requires
 u32-at-requires c κs = search needs

@@ -5,8 +5,6 @@ use lib.IntN.{pos}
 use Rattle.voice.specs.Header.{inScale}
 use Rattle.voice.proofs.header.in_scale.Statement.{statement}
 use Rattle.voice.proofs.header.in_scale.Tie as tie
-use Rattle.voice.proofs.header.in_scale.Reads as reads
-use Rattle.voice.proofs.header.in_scale.Lts as lts
 
 returns : tie.Need-returns
 unfolding inScale ofBits neg

@@ -1,18 +1,11 @@
 use Rattle.base.proofs.ListLaws.{every-pass, every-fail, every-one}
-use Rattle.base.specs.Lists.{every}
-use mathlib.Core.Path.{_≡_, refl, sym, ap, _∙_}
-use mathlib.Core.Bool.{true, false}
-use Rattle.voice.specs.Header.{headerOf, goodNumbers, goodScales}
+use mathlib.Core.Path.{sym, ap, _∙_}
+use Rattle.voice.specs.Header.{goodNumbers, goodScales}
 use Rattle.voice.specs.Header.{goodHeader}
 use borrow.Author.Tests.{lt-leb, le-leb}
 use borrow.Author.Needs.{needs}
 use Rattle.voice.proofs.header.is_good.Statement.{statement}
 use Rattle.voice.proofs.header.is_good.Tie as tie
-use Rattle.voice.proofs.header.is_good.Reads as reads
-use Rattle.voice.proofs.header.is_good.Lts as lts
-use Rattle.voice.proofs.header.has_good_numbers.Reads as has-good-numbers-reads
-use Rattle.voice.proofs.header.has_good_scales.Reads as has-good-scales-reads
-use Rattle.voice.proofs.header.header_of.Reads as header-of-reads
 
 returns : tie.Need-returns
 unfolding goodHeader

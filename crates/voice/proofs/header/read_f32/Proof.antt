@@ -1,10 +1,6 @@
 use borrow.Author.Needs.{needs}
 use Rattle.voice.proofs.header.read_f32.Statement.{statement}
 use Rattle.voice.proofs.header.read_f32.Tie as tie
-use Rattle.voice.proofs.header.read_f32.Reads as reads
-use Rattle.voice.proofs.header.read_f32.Lts as lts
-use Rattle.base.proofs.bytes.u32_at.Reads as u32-at-reads
-use Rattle.float.proofs.f32_from_word.Reads as f32-from-word-reads
 
 u32-at-requires : tie.Need-u32-at-requires
 u32-at-requires c κs = search needs

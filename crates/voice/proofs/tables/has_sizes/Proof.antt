@@ -4,8 +4,6 @@ use Rattle.voice.specs.Opening.{hasSizes}
 use borrow.Author.Needs.{needs}
 use Rattle.voice.proofs.tables.has_sizes.Statement.{statement}
 use Rattle.voice.proofs.tables.has_sizes.Tie as tie
-use Rattle.voice.proofs.tables.has_sizes.Reads as reads
-use Rattle.voice.proofs.tables.has_sizes.Lts as lts
 
 enum-known-sizes : tie.Need-enum-known-sizes
 enum-known-sizes c = search needs

@@ -1,4 +1,4 @@
-use mathlib.Core.Path.{_≡_, refl, sym, ap, _∙_}
+use mathlib.Core.Path.{_≡_, sym, ap, _∙_}
 use native.Mathlib.Omega.{arith}
 use borrow.Author.Tests.{lt-leb, le-leb, not-true, not-false}
 use mathlib.Core.List.{List}
@@ -13,11 +13,6 @@ use Rattle.voice.proofs.TableLaws.{tables-are, order-low, offsets-withi
 use borrow.Author.Needs.{needs}
 use Rattle.voice.proofs.tables.is_good.Statement.{statement}
 use Rattle.voice.proofs.tables.is_good.Tie as tie
-use Rattle.voice.proofs.tables.is_good.Reads as reads
-use Rattle.voice.proofs.tables.is_good.Lts as lts
-use Rattle.base.proofs.bytes.u32_at.Reads as u32-at-reads
-use Rattle.voice.proofs.tables.has_sizes.Reads as has-sizes-reads
-use Rattle.voice.proofs.tables.is_rising.Reads as is-rising-reads
 
 cast-frames : tie.Need-cast-frames
 cast-frames c = search needs

@@ -8,9 +8,6 @@ use Rattle.voice.specs.Opening.{risingIn}
 use Rattle.voice.proofs.TableLaws.{risen-more, risen-fails}
 use Rattle.voice.proofs.tables.is_rising.Statement.{statement}
 use Rattle.voice.proofs.tables.is_rising.Tie as tie
-use Rattle.voice.proofs.tables.is_rising.Reads as reads
-use Rattle.voice.proofs.tables.is_rising.Lts as lts
-use Rattle.base.proofs.bytes.u32_at.Reads as u32-at-reads
 
 abbrev Inv-loop : tie.InvT-loop
 Inv-loop offsets n last₀ i₀ last i = (i ≤ n) × ((last ≡ u32At offsets i) × (risingIn offsets i ≡ true))

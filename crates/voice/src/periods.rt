@@ -1,0 +1,67 @@
+// The pitch periods of an open voice: samples, residual and row of each.
+ghost use mathlib.Core.Path.{_≡_};
+ghost use Prim.Native.Nat.{_+_, _*_, _≤_, _<_};
+ghost use Rattle.base.specs.Buffers.{flat};
+ghost use Rattle.base.specs.Bytes.{bytesOf};
+ghost use Rattle.voice.specs.Voice.{voiceOf};
+ghost use Rattle.voice.specs.Periods as periods;
+ghost use Rattle.voice.specs.Opening.{IsOpen};
+use super::DiphoneVoice;
+use base::Span;
+use container::Found;
+
+// Where period i begins in the residual.
+fn offset(file: &[u8], d: DiphoneVoice, i: usize) -> usize
+    requires { ⌜ IsOpen (now file) d × (i ≤ d .header .frames) ⌝ }
+    ensures { λ r. ⌜ (r ≡ periods.offset (voiceOf (now (file .entry))) i) × (r ≤ d .residual .len) ⌝ }
+{
+    base::bytes::read_u32(file, d.offsets.at + 4 * i) as usize
+}
+
+// How many bytes period p has.
+pub fn gap(file: &[u8], d: DiphoneVoice, p: usize) -> usize
+    requires { ⌜ IsOpen (now file) d × (p < d .header .frames) ⌝ }
+    ensures { λ r. ⌜ (r ≡ periods.gap (voiceOf (now (file .entry))) p) × (r ≤ 16777215) ⌝ }
+{
+    offset(file, d, p + 1) - offset(file, d, p)
+}
+
+// How many samples period p has.
+pub fn period_samples(file: &[u8], d: DiphoneVoice, p: usize) -> usize
+    requires { ⌜ IsOpen (now file) d × (p < d .header .frames) ⌝ }
+    ensures { λ r. ⌜ (r ≡ periods.samplesOf (voiceOf (now (file .entry))) p) × (r ≤ 16777215) ⌝ }
+{
+    let sizes = d.sizes;
+    match sizes {
+        Found::At(span) => {
+            let at = span.at + p;
+            file[at] as usize
+        }
+        Found::Missing => gap(file, d, p),
+    }
+}
+
+// The residual of period p.
+pub fn residual<'a>(file: &'a [u8], d: DiphoneVoice, p: usize) -> &'a [u8]
+    requires { ⌜ IsOpen (now file) d × (p < d .header .frames) ⌝ }
+    ensures { λ r. ⌜ now r ≡ periods.residualOf (voiceOf (now (file .entry))) p ⌝ }
+{
+    let part = Span {
+        at: d.residual.at + offset(file, d, p),
+        len: gap(file, d, p),
+    };
+    super::sections::bytes_at(file, part)
+}
+
+// The row of period p, its values of two bytes each as stored.
+pub fn row<'a>(file: &'a [u8], d: DiphoneVoice, p: usize) -> &'a [u8]
+    requires { ⌜ IsOpen (now file) d × (p < d .header .frames) ⌝ }
+    ensures { λ r. ⌜ now r ≡ flat (bytesOf 2) (periods.rowOf (voiceOf (now (file .entry))) p) ⌝ }
+{
+    let width = 2 * (d.header.order as usize);
+    let part = Span {
+        at: d.lpc.at + p * width,
+        len: width,
+    };
+    super::sections::bytes_at(file, part)
+}
