@@ -1,0 +1,2 @@
+-- The root of index's laws.
+pub mod WalkLaws
