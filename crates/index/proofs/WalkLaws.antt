@@ -85,3 +85,28 @@ module _ (bs : List ℕ) where
       let p : at + 1 + n + 2 ≡ at + 3 + n = omega arith in
       let q : at + 1 + n + 3 ≡ at + 4 + n = omega arith in
       rw (s, f, g, p, q, e)
+
+  -- ---- a walk that takes f of the entries
+
+  pub walk-done : (n at : ℕ) → n ≤ 0 → entriesFrom n bs at .list ≡ []
+  unfolding entriesFrom
+  walk-done zero at h = refl
+  walk-done (suc n) at h = absurd (omega arith)
+
+  module _ {X : Type 0} (f : List Placed → X) (x : X) where
+    -- what is left has the answer
+    pub record Walk (n at : ℕ) : Type 0 where
+      pub whole : entriesFrom n bs at .whole ≡ true
+      pub same : f (entriesFrom n bs at .list) ≡ x
+
+    -- one entry further, where the entry passed does not matter
+    pub step : (n at next : ℕ) → Walk n at → (t : Turn n at) → next ≡ nextEntry bs at
+        → f (placed at ∷ entriesFrom (n - 1) bs (nextEntry bs at) .list) ≡ f (entriesFrom (n - 1) bs (nextEntry bs at) .list) → Walk (n - 1) next
+    step n at next w t e p = rw e (record { whole = t .whole; same = sym p ∙ sym (ap f (t .list)) ∙ w .same })
+
+    -- the entry here settles it
+    pub stop : (n at : ℕ) → Walk n at → (t : Turn n at) → (y : X) → f (placed at ∷ entriesFrom (n - 1) bs (nextEntry bs at) .list) ≡ y → y ≡ x
+    stop n at w t y p = sym p ∙ sym (ap f (t .list)) ∙ w .same
+
+    pub end : (n at : ℕ) → Walk n at → n ≤ 0 → (y : X) → f [] ≡ y → y ≡ x
+    end n at w h y p = sym p ∙ sym (ap f (walk-done n at h)) ∙ w .same

@@ -7,8 +7,8 @@ ghost use Prim.Native.Nat.{_+_, _*_, _^_, _<_, _≤_};
 ghost use lib.Dec.{leb};
 ghost use lib.ListN.{length, getD, take};
 ghost use Rattle.base.specs.Buffers.{over};
-ghost use Rattle.text.specs.Names.{orderOf};
-ghost use Rattle.voice.specs.Voice.{entryAt, nextEntry, wholeEntry, entriesFrom, lookup, sort};
+ghost use Rattle.text.specs.Names.{before, orderOf};
+ghost use Rattle.voice.specs.Voice.{entryAt, nextEntry, wholeEntry, entriesFrom, lookup, isSome, sort};
 ghost use Rattle.voice.specs.Opening.{withinFrames, distinct};
 ghost use Rattle.index.specs.Index as index;
 use text::Order;
@@ -93,4 +93,125 @@ fn periods_at(entries: &[u8], at: usize) -> EntryPeriods
         first: byte_at(entries, place + 2),
         second: byte_at(entries, place + 3),
     }
+}
+
+// Whether each entry's periods end within the frames.
+pub fn ends_within(entries: &[u8], count: usize, frames: usize) -> bool
+    requires { ⌜ entriesFrom count (now entries) 0 .whole ≡ true ⌝ }
+    ensures { λ r. ⌜ r ≡ withinFrames frames (entriesFrom count (now (entries .entry)) 0 .list) ⌝ }
+{
+    let mut at = 0;
+    let mut left = count;
+    while 0 < left {
+        let e = periods_at(entries, at);
+        if frames < e.start + e.first + e.second {
+            return false;
+        }
+        at = next_entry(entries, at);
+        left -= 1;
+    }
+    true
+}
+
+// The name of the entry at a place.
+fn name_at(entries: &[u8], at: usize) -> &[u8]
+    requires { ⌜ nextEntry (now entries) at ≤ length (now entries) ⌝ }
+    ensures { λ r. ⌜ now r ≡ entryAt (now (entries .entry)) at .name ⌝ }
+{
+    let from = at + 1;
+    let to = from + byte_at(entries, at);
+    &entries[from..to]
+}
+
+// Whether the name of the entry at place a stands before that at place b.
+fn stands_before(entries: &[u8], a: usize, b: usize) -> bool
+    requires { ⌜ (nextEntry (now entries) a ≤ length (now entries)) × (nextEntry (now entries) b ≤ length (now entries)) ⌝ }
+    ensures { λ r. ⌜ r ≡ before (entryAt (now (entries .entry)) a .name) (entryAt (now (entries .entry)) b .name) ⌝ }
+{
+    match text::compare(name_at(entries, a), name_at(entries, b)) {
+        Order::Before => true,
+        Order::Same => false,
+        Order::After => false,
+    }
+}
+
+// Whether each name stands before the next.
+fn is_ascending(entries: &[u8], count: usize) -> bool
+    requires { ⌜ entriesFrom count (now entries) 0 .whole ≡ true ⌝ }
+    ensures { λ r. ⌜ r ≡ index.ascending (entriesFrom count (now (entries .entry)) 0 .list) ⌝ }
+{
+    let mut at = 0;
+    let mut left = count;
+    while 1 < left {
+        let next = next_entry(entries, at);
+        if stands_before(entries, at, next) {
+            at = next;
+            left -= 1;
+        } else {
+            return false;
+        }
+    }
+    true
+}
+
+// What the `count` entries from a place on have under a name.
+fn lookup_from(entries: &[u8], from: usize, count: usize, name: &[u8]) -> FoundEntry
+    requires { ⌜ entriesFrom count (now entries) from .whole ≡ true ⌝ }
+    ensures { λ r.
+        ⌜ r ≡ index.foundOf (lookup (now (name .entry)) (entriesFrom count (now (entries .entry)) from .list)) ⌝ }
+{
+    let mut at = from;
+    let mut left = count;
+    while 0 < left {
+        if text::same(name_at(entries, at), name) {
+            return FoundEntry::Found(periods_at(entries, at));
+        }
+        at = next_entry(entries, at);
+        left -= 1;
+    }
+    FoundEntry::Missing
+}
+
+// Whether the name of the entry at a place stands among the `count` entries from another place on.
+fn stands_among(entries: &[u8], at: usize, from: usize, count: usize) -> bool
+    requires { ⌜ (nextEntry (now entries) at ≤ length (now entries)) × (entriesFrom count (now entries) from .whole ≡ true) ⌝ }
+    ensures { λ r.
+        ⌜
+        r ≡ isSome
+        (lookup (entryAt (now (entries .entry)) at .name) (entriesFrom count (now (entries .entry)) from .list))
+        ⌝ }
+{
+    match lookup_from(entries, from, count, name_at(entries, at)) {
+        FoundEntry::Found(_) => true,
+        FoundEntry::Missing => false,
+    }
+}
+
+// Whether no name stands twice, each compared with all that follow.
+fn differ(entries: &[u8], count: usize) -> bool
+    requires { ⌜ entriesFrom count (now entries) 0 .whole ≡ true ⌝ }
+    ensures { λ r. ⌜ r ≡ distinct (entriesFrom count (now (entries .entry)) 0 .list) ⌝ }
+{
+    let mut at = 0;
+    let mut left = count;
+    while 0 < left {
+        let next = next_entry(entries, at);
+        left -= 1;
+        if stands_among(entries, at, next, left) {
+            return false;
+        }
+        at = next;
+    }
+    true
+}
+
+// Whether no name stands twice. Names in order are each compared with the next alone.
+pub fn has_distinct_names(entries: &[u8], count: usize) -> bool
+    requires { ⌜ entriesFrom count (now entries) 0 .whole ≡ true ⌝ }
+    ensures { λ r. ⌜ r ≡ distinct (entriesFrom count (now (entries .entry)) 0 .list) ⌝ }
+{
+    if is_ascending(entries, count) {
+        return true;
+    }
+    differ(entries, count)
 }
