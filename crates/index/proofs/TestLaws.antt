@@ -72,9 +72,13 @@ abbrev pub isFound : FoundEntry → Bool
 isFound (Found e) = true
 isFound Missing = false
 
-pub found-some : (o : Option Entry) → isFound (foundOf o) ≡ isSome o
-found-some none = refl
-found-some (some e) = refl
+-- a name was looked for by its bytes
+pub found-some : (n m : List ℕ) (ps : List Placed) (f g : FoundEntry) → f ≡ g → f ≡ foundOf (lookup n ps) → n ≡ m → isFound g ≡ isSome (lookup m ps)
+found-some n m ps f g d e h = ap isFound (sym d ∙ e) ∙ go (lookup n ps) ∙ ap (λ (k : List ℕ). isSome (lookup k ps)) h
+  where
+    go : (o : Option Entry) → isFound (foundOf o) ≡ isSome o
+    go none = refl
+    go (some e) = refl
 
 -- ---- distinct
 

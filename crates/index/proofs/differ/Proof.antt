@@ -1,47 +1,53 @@
+use mathlib.Core.Path.{_≡_, refl, sym, ap, _∙_}
+use Prim.Native.Nat.{ℕ, _-_}
+use Rattle.voice.specs.Voice.{entriesFrom, entryAt, lookup, isSome}
+use Rattle.voice.specs.Opening.{distinct}
+use Rattle.index.proofs.WalkLaws.{Walk, turn, step, stop, end}
+use Rattle.index.proofs.TestLaws.{distinct-none, distinct-twice, distinct-more}
+use borrow.Author.Needs.{needs}
+use native.Mathlib.Omega.{arith}
 use Rattle.index.proofs.differ.Statement.{statement}
 use Rattle.index.proofs.differ.Tie as tie
-use Rattle.index.proofs.differ.Reads as reads
-use Rattle.index.proofs.differ.Lts as lts
-use Rattle.index.proofs.next_entry.Reads as next-entry-reads
-use Rattle.index.proofs.stands_among.Reads as stands-among-reads
 
 abbrev Inv-loop : tie.InvT-loop
-Inv-loop entries count at₀ left₀ at left = ?
+Inv-loop entries count at₀ left₀ at left = Walk entries distinct (distinct (entriesFrom count entries at₀ .list)) left at
 
 abbrev μ-loop : tie.MeasureT-loop
-μ-loop entries count at₀ left₀ at left = ?
+μ-loop entries count at₀ left₀ at left = left
 
--- src/lib.rt:197:5
 loop-holds : tie.Need-loop-holds Inv-loop μ-loop
-loop-holds c = ?
+loop-holds c = record { whole = c .before .pre; same = refl }
 
--- src/lib.rt:198:13
 next-entry-requires : tie.Need-next-entry-requires Inv-loop μ-loop
-next-entry-requires c κs = ?
+next-entry-requires c κs = turn _ _ _ (omega arith) (c .before .loop .inv .whole) .fits
 
--- src/lib.rt:199:9
 sub-left : tie.Need-sub-left Inv-loop μ-loop
-sub-left c = ?
+sub-left c = search needs
 
--- src/lib.rt:200:12
 stands-among-requires : tie.Need-stands-among-requires Inv-loop μ-loop
-stands-among-requires c κs = ?
+stands-among-requires c κs =
+    let t = turn _ _ _ (omega arith) (c .before .before .loop .inv .whole) in
+    (t .fits, rw (c .next-entry .ensures .0) (t .whole))
 
--- src/lib.rt:201:13
 returns : tie.Need-returns Inv-loop μ-loop
-returns c = ?
+returns c =
+    let l = c .before .before .before .before .loop in
+    let b = sym (c .before .stands-among .ensures) ∙ c .if1 .taken in
+    let e = rw (c .before .before .next-entry .ensures .0) at b in
+    stop _ _ _ _ _ (l .inv) (turn _ _ _ (omega arith) (l .inv .whole)) _ (distinct-twice _ _ e)
 
--- src/lib.rt:197:5
 loop-less : tie.Need-loop-less Inv-loop μ-loop
-loop-less c = ?
+loop-less c = search needs
 
--- src/lib.rt:197:5
 loop-again : tie.Need-loop-again Inv-loop μ-loop
-loop-again c = ?
+loop-again c =
+    let l = c .before .before .before .before .loop in
+    let b = sym (c .before .stands-among .ensures) ∙ c .if1 .left in
+    let e = rw (c .before .before .next-entry .ensures .0) at b in
+    step _ _ _ _ _ _ (l .inv) (turn _ _ _ (omega arith) (l .inv .whole)) (c .before .before .next-entry .ensures .0) (distinct-more _ _ e)
 
--- src/lib.rt:191:1
 returns-2 : tie.Need-returns-2 Inv-loop μ-loop
-returns-2 c = ?
+returns-2 c = end _ _ _ _ _ (c .before .loop .inv) (omega arith) _ distinct-none
 
 pub differ-spec : {M : Type 1} → statement M
 differ-spec =
