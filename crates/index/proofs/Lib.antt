@@ -2,3 +2,7 @@
 pub mod WalkLaws
 pub mod OrderLaws
 pub mod TestLaws
+pub mod BufferLaws
+pub mod SortLaws
+pub mod InsertLaws
+pub mod StoreLaws

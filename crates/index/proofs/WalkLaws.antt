@@ -39,7 +39,7 @@ module _ (bs : List ℕ) where
 
   -- ---- n entries from a place on
 
-  abbrev after : Bool → ℕ → Index → Index
+  abbrev pub after : Bool → ℕ → Index → Index
   after t at r = elim t [ false ↦ record { whole = false; list = [] } | true ↦ withEntry (placed at) r ]
 
   one-more : (n at : ℕ) → 0 < n → entriesFrom n bs at ≡ after (wholeEntry bs at) at (entriesFrom (n - 1) bs (nextEntry bs at))

@@ -1,13 +1,14 @@
 -- What the index's functions answer.
+use mathlib.Core.Path.{_≡_}
 use mathlib.Core.Bool.{Bool, true, false, _&&_}
 use mathlib.Core.List.{List, [], _∷_, _++_, map}
 use mathlib.Core.Option.{Option, none, some}
-use Prim.Native.Nat.{ℕ, _+_}
-use lib.ListN.{take, drop}
+use Prim.Native.Nat.{ℕ, _+_, _*_, _^_, _≤_, _<_}
+use lib.ListN.{length, take, drop}
 use Rattle.base.specs.Buffers.{flat}
 use Rattle.base.specs.Bytes.{bytesOf}
 use Rattle.text.specs.Names.{before}
-use Rattle.voice.specs.Voice.{Entry, Placed, sort}
+use Rattle.voice.specs.Voice.{Entry, Placed, entriesFrom, sort}
 use Rattle.index.specs.declared.EntryPeriods.{EntryPeriods}
 use Rattle.index.specs.declared.FoundEntry.{FoundEntry}
 use Rattle.index.specs.declared.FoundEntry.the-variants.{Found, Missing}
@@ -34,6 +35,12 @@ ascending (p ∷ ps) = beforeFirst (p .entry .name) ps && ascending ps
 abbrev pub firstOf : List Placed → Entry
 firstOf [] = record { name = []; start = 0; first = 0; second = 0 }
 firstOf (p ∷ ps) = p .entry
+
+-- The entries are whole, an index of n bytes has room for them, and the file's offsets fit: the entries' bytes begin at `base` of the file.
+pub record Indexable (entries : List ℕ) (count base n : ℕ) : Type 0 where
+  pub whole : entriesFrom count entries 0 .whole ≡ true
+  pub within : base + length entries < 2 ^ 63
+  pub room : 8 * count ≤ n
 
 -- the bytes of an index whose entries' bytes begin at `base` of the file
 abbrev pub indexOf : ℕ → List Placed → List ℕ

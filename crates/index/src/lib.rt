@@ -10,7 +10,7 @@ ghost use Rattle.base.specs.Buffers.{over};
 ghost use Rattle.text.specs.Names.{before, orderOf};
 ghost use Rattle.voice.specs.Voice.{entryAt, nextEntry, wholeEntry, entriesFrom, lookup, isSome, sort};
 ghost use Rattle.voice.specs.Opening.{withinFrames, distinct};
-ghost use Rattle.index.specs.Index as index;
+ghost use Rattle.index.specs.Index.{Indexable, periodsOf, foundOf, ascending, indexOf, sortedFrom};
 use text::Order;
 
 // The numbers of an entry: its first pitch period, and how many its two halves have.
@@ -83,7 +83,7 @@ fn periods_at(entries: &[u8], at: usize) -> EntryPeriods
     requires { ⌜ nextEntry (now entries) at ≤ length (now entries) ⌝ }
     ensures { λ r.
         ⌜
-        (r ≡ index.periodsOf (entryAt (now (entries .entry)) at)) ×
+        (r ≡ periodsOf (entryAt (now (entries .entry)) at)) ×
         ((r .start < 2 ^ 16) × ((r .first < 2 ^ 8) × (r .second < 2 ^ 8)))
         ⌝ }
 {
@@ -138,7 +138,7 @@ fn stands_before(entries: &[u8], a: usize, b: usize) -> bool
 // Whether each name stands before the next.
 fn is_ascending(entries: &[u8], count: usize) -> bool
     requires { ⌜ entriesFrom count (now entries) 0 .whole ≡ true ⌝ }
-    ensures { λ r. ⌜ r ≡ index.ascending (entriesFrom count (now (entries .entry)) 0 .list) ⌝ }
+    ensures { λ r. ⌜ r ≡ ascending (entriesFrom count (now (entries .entry)) 0 .list) ⌝ }
 {
     let mut at = 0;
     let mut left = count;
@@ -158,7 +158,7 @@ fn is_ascending(entries: &[u8], count: usize) -> bool
 fn lookup_from(entries: &[u8], from: usize, count: usize, name: &[u8]) -> FoundEntry
     requires { ⌜ entriesFrom count (now entries) from .whole ≡ true ⌝ }
     ensures { λ r.
-        ⌜ r ≡ index.foundOf (lookup (now (name .entry)) (entriesFrom count (now (entries .entry)) from .list)) ⌝ }
+        ⌜ r ≡ foundOf (lookup (now (name .entry)) (entriesFrom count (now (entries .entry)) from .list)) ⌝ }
 {
     let mut at = from;
     let mut left = count;
@@ -214,4 +214,83 @@ pub fn has_distinct_names(entries: &[u8], count: usize) -> bool
         return true;
     }
     differ(entries, count)
+}
+
+// Stores where each entry begins in the file at the front of the index, in file order.
+fn store_places(entries: &[u8], count: usize, base: usize, index: &mut [u8])
+    requires { ⌜ Indexable (now entries) count base (length (now index)) ⌝ }
+    ensures { λ _.
+        ⌜
+        now (index .exit) ≡
+        over (indexOf base (entriesFrom count (now (entries .entry)) 0 .list)) (now (index .entry))
+        ⌝ }
+{
+    let mut at = 0;
+    let mut i = 0;
+    while i < count {
+        base::bytes::put_u64(index, i, (base + at) as u64);
+        at = next_entry(entries, at);
+        i += 1;
+    }
+}
+
+// Moves place i of the index behind those places after it whose entries it does not stand before.
+fn insert_place(entries: &[u8], count: usize, base: usize, index: &mut [u8], i: usize)
+    requires { ⌜
+        (Indexable (now entries) count base (length (now index))) ×
+        ((i < count) ×
+        (take (8 * count) (now index) ≡
+        indexOf base (sortedFrom (i + 1) (entriesFrom count (now entries) 0 .list))))
+        ⌝ }
+    ensures { λ _.
+        ⌜
+        now (index .exit) ≡
+        over (indexOf base (sortedFrom i (entriesFrom count (now (entries .entry)) 0 .list))) (now (index .entry))
+        ⌝ }
+{
+    let place = base::bytes::u64_at(index, i);
+    let mut j = i + 1;
+    while j < count {
+        let next = base::bytes::u64_at(index, j);
+        if stands_before(entries, place as usize - base, next as usize - base) {
+            base::bytes::put_u64(index, j - 1, place);
+            return;
+        }
+        base::bytes::put_u64(index, j - 1, next);
+        j += 1;
+    }
+    base::bytes::put_u64(index, j - 1, place);
+}
+
+// Sorts the places that stand in file order at the front of the index.
+fn sort_places(entries: &[u8], count: usize, base: usize, index: &mut [u8])
+    requires { ⌜
+        (Indexable (now entries) count base (length (now index))) ×
+        (take (8 * count) (now index) ≡ indexOf base (entriesFrom count (now entries) 0 .list))
+        ⌝ }
+    ensures { λ _.
+        ⌜
+        now (index .exit) ≡
+        over (indexOf base (sort (entriesFrom count (now (entries .entry)) 0 .list))) (now (index .entry))
+        ⌝ }
+{
+    let mut i = count;
+    while 0 < i {
+        i -= 1;
+        insert_place(entries, count, base, index, i);
+    }
+}
+
+// Fills the index: where each entry begins in the file, in name order. The entries' bytes begin at
+// `base`.
+pub fn fill_index(entries: &[u8], count: usize, base: usize, index: &mut [u8])
+    requires { ⌜ Indexable (now entries) count base (length (now index)) ⌝ }
+    ensures { λ _.
+        ⌜
+        now (index .exit) ≡
+        over (indexOf base (sort (entriesFrom count (now (entries .entry)) 0 .list))) (now (index .entry))
+        ⌝ }
+{
+    store_places(entries, count, base, index);
+    sort_places(entries, count, base, index);
 }
