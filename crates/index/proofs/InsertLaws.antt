@@ -9,13 +9,13 @@ use lib.Seq.{sets, drop-cons, length-take-le}
 use Rattle.base.specs.Buffers.{over}
 use Rattle.base.specs.Bytes.{bytesOf, u64At}
 use Rattle.base.proofs.BoundLaws.{Each, nil, cons}
-use Rattle.base.proofs.BufferLaws.{length-over}
+use Rattle.base.proofs.BufferLaws.{length-over, take-over}
 use Rattle.text.specs.Names.{before}
 use Rattle.voice.specs.Voice.{Placed, entryAt, nextEntry, entriesFrom, insert, sort}
 use Rattle.index.specs.Index.{indexOf, sortedFrom, Indexable}
 use Rattle.index.proofs.WalkLaws.{placed}
-use Rattle.index.proofs.BufferLaws.{over-front, length-index, place-read, place-stored}
-use Rattle.index.proofs.SortLaws.{Stored, insert-none, insert-here, insert-later, each-sort, each-drop, each-first, each-rest, each-stored, length-walk, length-sort, length-sortedFrom, sorted-next, sorted-here}
+use Rattle.index.proofs.BufferLaws.{over-front, over-over, length-index, place-read, place-stored}
+use Rattle.index.proofs.SortLaws.{Stored, insert-none, insert-here, insert-later, each-sort, each-drop, each-first, each-rest, each-stored, length-walk, length-sort, length-sortedFrom, sorted-none, sorted-all, sorted-next, sorted-here}
 
 module _ (bs : List ℕ) (count base : ℕ) where
   -- Place j - 1 of the index is free; `front` stands before it, `rest` behind it. The entry p, stored as `place`, is still to come.
@@ -109,3 +109,46 @@ module _ (bs : List ℕ) (count base : ℕ) where
       moving p p front rest s is
       (each-sort (Stored bs) (drop (suc i) ps) (each-rest (Stored bs) p (drop (suc i) ps) stored))
       held (omega arith) (omega arith) (sym (sorted-here i ps (placed bs 0) h))
+
+-- ---- all insertions, from the back
+
+module _ (bs : List ℕ) (count base : ℕ) (d : List ℕ) (r : Indexable bs count base (length d)) where
+  abbrev all : List Placed
+  all = entriesFrom count bs 0 .list
+
+  -- the places from i on are sorted
+  pub record Sorting (index : List ℕ) (i : ℕ) : Type 0 where
+    pub within : i ≤ count
+    pub held : index ≡ over (indexOf base (sortedFrom i all)) d
+
+  length-part : (i : ℕ) → length (indexOf base (sortedFrom i all)) ≡ 8 * count
+  length-part i = length-index base (sortedFrom i all) ∙ ap (λ (k : ℕ). 8 * k) (length-sortedFrom i all ∙ length-walk bs count 0 (r .whole))
+
+  pub sorting-start : take (8 * count) d ≡ indexOf base all → Sorting d count
+  sorting-start t =
+      let n = sorted-none count all (length-walk bs count 0 (r .whole)) in
+      let k : take (8 * count) d ≡ indexOf base (sortedFrom count all) = t ∙ ap (indexOf base) (sym n) in
+      record { within = omega arith; held = sym (over-front (indexOf base (sortedFrom count all)) d (8 * count) k (length-part count)) }
+
+  module _ (index : List ℕ) (i : ℕ) (s : Sorting index i) where
+    pub sorting-long : length index ≡ length d
+    sorting-long = ap length (s .held) ∙ length-over (indexOf base (sortedFrom i all)) d (omega (arith, length-part i, r .room))
+
+    -- what the next insertion asks
+    pub sorting-asks : 0 < i → Indexable bs count base (length index) × ((i - 1 < count) × (take (8 * count) index ≡ indexOf base (sortedFrom (i - 1 + 1) all)))
+    sorting-asks h =
+        let e : i - 1 + 1 ≡ i = omega arith in
+        (record { whole = r .whole; within = r .within; room = omega (arith, r .room, sorting-long) },
+        (omega (arith, s .within), rw e (ap (take (8 * count)) (s .held) ∙ take-over (indexOf base (sortedFrom i all)) d (8 * count) (length-part i))))
+
+    pub sorting-more : 0 < i → (new : List ℕ) → new ≡ over (indexOf base (sortedFrom (i - 1) all)) index → Sorting new (i - 1)
+    sorting-more h new e =
+        record {
+          within = omega (arith, s .within);
+          held = e ∙ ap (over (indexOf base (sortedFrom (i - 1) all))) (s .held) ∙ over-over (indexOf base (sortedFrom (i - 1) all)) (indexOf base (sortedFrom i all)) d (length-part (i - 1) ∙ sym (length-part i));
+        }
+
+    pub sorting-end : i ≤ 0 → index ≡ over (indexOf base (sort all)) d
+    sorting-end h =
+        let e : i ≡ 0 = omega arith in
+        s .held ∙ ap (λ (k : ℕ). over (indexOf base (sortedFrom k all)) d) e ∙ ap (λ (ps : List Placed). over (indexOf base ps) d) (sorted-all all)

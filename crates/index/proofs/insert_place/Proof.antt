@@ -1,5 +1,5 @@
 use mathlib.Core.Path.{_≡_, sym, ap, _∙_}
-use Prim.Native.Nat.{_+_, _-_}
+use Prim.Native.Nat.{_+_, _-_, _≤_}
 use Rattle.voice.specs.Voice.{entriesFrom}
 use Rattle.index.specs.Index.{sortedFrom}
 use Rattle.index.proofs.InsertLaws.{Moving, moving-start, moving-length, moving-end, moving-next}
@@ -26,34 +26,52 @@ loop-holds c =
     (omega arith, (omega (arith, r), moving-start _ _ _ _ _ _ (r .0) (r .1 .0) (r .1 .1) (c .u64-at .ensures)))
 
 u64-at-requires-2 : tie.Need-u64-at-requires-2 Inv-loop μ-loop
-u64-at-requires-2 c κs = search needs
+u64-at-requires-2 c κs =
+    let r = c .before .before .before .before .before .before .before .pre .0 in
+    omega (arith, r .room, moving-length _ _ _ _ _ _ _ _ (r .room) (r .within) (c .before .before .loop .inv .1 .1))
 
 sub-stands-before : tie.Need-sub-stands-before Inv-loop μ-loop
-sub-stands-before c = search needs
+sub-stands-before c =
+    let r = c .before .before .before .before .before .before .before .before .pre .0 in
+    moving-next _ _ _ _ _ _ _ _ (r .room) (r .within) (c .before .before .before .loop .inv .1 .1) (omega arith) _ (c .u64-at2 .ensures) .low
 
 sub-stands-before-2 : tie.Need-sub-stands-before-2 Inv-loop μ-loop
-sub-stands-before-2 c = search needs
+sub-stands-before-2 c =
+    let r = c .before .before .before .before .before .before .before .before .pre .0 in
+    moving-next _ _ _ _ _ _ _ _ (r .room) (r .within) (c .before .before .before .loop .inv .1 .1) (omega arith) _ (c .u64-at2 .ensures) .low-next
 
 stands-before-requires : tie.Need-stands-before-requires Inv-loop μ-loop
-stands-before-requires c κs = search needs
+stands-before-requires c κs =
+    let r = c .before .before .before .before .before .before .before .before .pre .0 in
+    let n = moving-next _ _ _ _ _ _ _ _ (r .room) (r .within) (c .before .before .before .loop .inv .1 .1) (omega arith) _ (c .u64-at2 .ensures) in
+    (n .fits, n .fits-next)
 
 sub-put-u64 : tie.Need-sub-put-u64 Inv-loop μ-loop
 sub-put-u64 c = search needs
 
 put-u64-requires : tie.Need-put-u64-requires Inv-loop μ-loop
-put-u64-requires c κs = search needs
+put-u64-requires c κs =
+    let r = c .before .before .before .before .before .before .before .before .before .before .before .pre .0 in
+    omega (arith, r .room, moving-length _ _ _ _ _ _ _ _ (r .room) (r .within) (c .before .before .before .before .before .before .loop .inv .1 .1))
 
 same-length : tie.Need-same-length Inv-loop μ-loop
-same-length c = search needs
+same-length c =
+    let r = c .before .before .before .before .before .before .before .before .before .before .before .before .before .before .pre .0 in
+    omega (arith, moving-length _ _ _ _ _ _ _ _ (r .room) (r .within) (c .before .before .before .before .before .before .before .before .before .loop .inv .1 .1))
 
 returns : tie.Need-returns Inv-loop μ-loop
-returns c = search needs
+returns c =
+    let r = c .before .before .before .before .before .before .before .before .before .before .before .before .before .before .pre .0 in
+    let n = moving-next _ _ _ _ _ _ _ _ (r .room) (r .within) (c .before .before .before .before .before .before .before .before .before .loop .inv .1 .1) (omega arith) _ (c .before .before .before .before .before .before .u64-at2 .ensures) in
+    c .before .before .put-u64 .ensures ∙ n .stop (sym (c .before .before .before .before .before .stands-before .ensures) ∙ c .before .before .before .before .if1 .taken)
 
 sub-put-u64-2 : tie.Need-sub-put-u64-2 Inv-loop μ-loop
 sub-put-u64-2 c = search needs
 
 put-u64-requires-2 : tie.Need-put-u64-requires-2 Inv-loop μ-loop
-put-u64-requires-2 c κs = search needs
+put-u64-requires-2 c κs =
+    let r = c .before .before .before .before .before .before .before .before .before .before .before .pre .0 in
+    omega (arith, r .room, moving-length _ _ _ _ _ _ _ _ (r .room) (r .within) (c .before .before .before .before .before .before .loop .inv .1 .1))
 
 add-j-2 : tie.Need-add-j-2 Inv-loop μ-loop
 add-j-2 c = search needs
@@ -62,19 +80,28 @@ loop-less : tie.Need-loop-less Inv-loop μ-loop
 loop-less c = search needs
 
 loop-again : tie.Need-loop-again Inv-loop μ-loop
-loop-again c = search needs
+loop-again c =
+    let r = c .before .before .before .before .before .before .before .before .before .before .before .before .before .before .pre .0 in
+    let n = moving-next _ _ _ _ _ _ _ _ (r .room) (r .within) (c .before .before .before .before .before .before .before .before .before .loop .inv .1 .1) (omega arith) _ (c .before .before .before .before .before .before .u64-at2 .ensures) in
+    (omega arith, (omega arith, rw (c .before .before .put-u642 .ensures) (n .shift (sym (c .before .before .before .before .before .stands-before .ensures) ∙ c .before .before .before .before .if1 .left))))
 
 sub-put-u64-3 : tie.Need-sub-put-u64-3 Inv-loop μ-loop
 sub-put-u64-3 c = search needs
 
 put-u64-requires-3 : tie.Need-put-u64-requires-3 Inv-loop μ-loop
-put-u64-requires-3 c κs = search needs
+put-u64-requires-3 c κs =
+    let r = c .before .before .before .before .before .before .before .pre .0 in
+    omega (arith, r .room, moving-length _ _ _ _ _ _ _ _ (r .room) (r .within) (c .before .before .loop .inv .1 .1))
 
 same-length-2 : tie.Need-same-length-2 Inv-loop μ-loop
-same-length-2 c = search needs
+same-length-2 c =
+    let r = c .before .before .before .before .before .before .before .before .before .before .pre .0 in
+    omega (arith, moving-length _ _ _ _ _ _ _ _ (r .room) (r .within) (c .before .before .before .before .before .loop .inv .1 .1))
 
 returns-2 : tie.Need-returns-2 Inv-loop μ-loop
-returns-2 c = search needs
+returns-2 c =
+    let r = c .before .before .before .before .before .before .before .before .before .before .pre .0 in
+    c .before .before .put-u643 .ensures ∙ moving-end _ _ _ _ _ _ _ _ (r .room) (r .within) (c .before .before .before .before .before .loop .inv .1 .1) (omega arith)
 
 pub insert-place-spec : {M : Type 1} → statement M
 insert-place-spec =
