@@ -152,3 +152,17 @@ module _ (bs : List ℕ) (count base : ℕ) (d : List ℕ) (r : Indexable bs cou
     sorting-end h =
         let e : i ≡ 0 = omega arith in
         s .held ∙ ap (λ (k : ℕ). over (indexOf base (sortedFrom k all)) d) e ∙ ap (λ (ps : List Placed). over (indexOf base ps) d) (sorted-all all)
+
+  -- ---- the places stored, then sorted
+
+  length-all : (ps : List Placed) → length ps ≡ length all → length (indexOf base ps) ≡ 8 * count
+  length-all ps e = length-index base ps ∙ ap (λ (k : ℕ). 8 * k) (e ∙ length-walk bs count 0 (r .whole))
+
+  module _ (index : List ℕ) (h : index ≡ over (indexOf base all) d) where
+    pub filled-asks : length index ≡ length d → Indexable bs count base (length index) × (take (8 * count) index ≡ indexOf base all)
+    filled-asks e =
+        (record { whole = r .whole; within = r .within; room = omega (arith, r .room, e) },
+        ap (take (8 * count)) h ∙ take-over (indexOf base all) d (8 * count) (length-all all refl))
+
+    pub filled : (new : List ℕ) → new ≡ over (indexOf base (sort all)) index → new ≡ over (indexOf base (sort all)) d
+    filled new e = e ∙ ap (over (indexOf base (sort all))) h ∙ over-over (indexOf base (sort all)) (indexOf base all) d (length-all (sort all) (length-sort all) ∙ sym (length-all all refl))
