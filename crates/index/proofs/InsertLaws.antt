@@ -71,11 +71,11 @@ module _ (bs : List ℕ) (count base : ℕ) where
             fits-next = rw b (t .fits);
             stop = λ u. rw (h, e, i) (place-stored base front free (q ∷ qs) d p ∙ ap (λ (ps : List Placed). over (indexOf base ps) d) (ap (λ (ps : List Placed). front ++ ps) (sym (insert-here p q qs (named u a b))) ∙ g));
             shift = λ u.
-            moving p q (front ++ (q ∷ [])) qs s e r
-            (rw (h, x, i) (place-stored base front free (q ∷ qs) d q ∙ ap (λ (ps : List Placed). over (indexOf base ps) d) (sym (append-assoc front (q ∷ []) (q ∷ qs)))))
-            (rw (length-append front (q ∷ [])) (omega arith))
-            (rw (length-append front (q ∷ [])) (omega arith))
-            (append-assoc front (q ∷ []) (insert p qs) ∙ ap (λ (ps : List Placed). front ++ ps) (sym (insert-later p q qs (named u a b))) ∙ g);
+                moving p q (front ++ (q ∷ [])) qs s e r
+                (rw (h, x, i) (place-stored base front free (q ∷ qs) d q ∙ ap (λ (ps : List Placed). over (indexOf base ps) d) (sym (append-assoc front (q ∷ []) (q ∷ qs)))))
+                (rw (length-append front (q ∷ [])) (omega arith))
+                (rw (length-append front (q ∷ [])) (omega arith))
+                (append-assoc front (q ∷ []) (insert p qs) ∙ ap (λ (ps : List Placed). front ++ ps) (sym (insert-later p q qs (named u a b))) ∙ g);
           }
         where
           named : {u : Bool} → before (entryAt bs (place - base) .name) (entryAt bs (next - base) .name) ≡ u → place - base ≡ p .at → next - base ≡ q .at → before (p .entry .name) (q .entry .name) ≡ u
@@ -137,9 +137,10 @@ module _ (bs : List ℕ) (count base : ℕ) (d : List ℕ) (r : Indexable bs cou
     -- what the next insertion asks
     pub sorting-asks : 0 < i → Indexable bs count base (length index) × ((i - 1 < count) × (take (8 * count) index ≡ indexOf base (sortedFrom (i - 1 + 1) all)))
     sorting-asks h =
-        let e : i - 1 + 1 ≡ i = omega arith in
-        (record { whole = r .whole; within = r .within; room = omega (arith, r .room, sorting-long) },
-        (omega (arith, s .within), rw e (ap (take (8 * count)) (s .held) ∙ take-over (indexOf base (sortedFrom i all)) d (8 * count) (length-part i))))
+        let e : i - 1 + 1 ≡ i = omega arith in (
+          record { whole = r .whole; within = r .within; room = omega (arith, r .room, sorting-long) },
+          (omega (arith, s .within), rw e (ap (take (8 * count)) (s .held) ∙ take-over (indexOf base (sortedFrom i all)) d (8 * count) (length-part i))),
+        )
 
     pub sorting-more : 0 < i → (new : List ℕ) → new ≡ over (indexOf base (sortedFrom (i - 1) all)) index → Sorting new (i - 1)
     sorting-more h new e =
@@ -160,9 +161,10 @@ module _ (bs : List ℕ) (count base : ℕ) (d : List ℕ) (r : Indexable bs cou
 
   module _ (index : List ℕ) (h : index ≡ over (indexOf base all) d) where
     pub filled-asks : length index ≡ length d → Indexable bs count base (length index) × (take (8 * count) index ≡ indexOf base all)
-    filled-asks e =
-        (record { whole = r .whole; within = r .within; room = omega (arith, r .room, e) },
-        ap (take (8 * count)) h ∙ take-over (indexOf base all) d (8 * count) (length-all all refl))
+    filled-asks e = (
+      record { whole = r .whole; within = r .within; room = omega (arith, r .room, e) },
+      ap (take (8 * count)) h ∙ take-over (indexOf base all) d (8 * count) (length-all all refl),
+    )
 
     pub filled : (new : List ℕ) → new ≡ over (indexOf base (sort all)) index → new ≡ over (indexOf base (sort all)) d
     filled new e = e ∙ ap (over (indexOf base (sort all))) h ∙ over-over (indexOf base (sort all)) (indexOf base all) d (length-all (sort all) (length-sort all) ∙ sym (length-all all refl))

@@ -6,3 +6,4 @@ pub mod BufferLaws
 pub mod SortLaws
 pub mod InsertLaws
 pub mod StoreLaws
+pub mod FirstLaws

@@ -72,6 +72,14 @@ before-neither (x ∷ xs) (y ∷ ys) p q =
     (λ l. let e = before-neither xs ys (sym (before-tail x y xs ys l) ∙ p) (sym (before-tail y x ys xs (sym l)) ∙ q) in cc)
     (λ l. not-both (before (y ∷ ys) (x ∷ xs)) (before-less y x ys xs l) q)
 
+pub not-before-trans : (a b c : List ℕ) → before a b ≡ false → before b c ≡ false → before a c ≡ false
+not-before-trans a b c p q = go (before a c) refl (before b a) refl
+  where
+    go : (t : Bool) → before a c ≡ t → (u : Bool) → before b a ≡ u → t ≡ false
+    go false e u f = refl
+    go true e true f = not-both (before b c) (before-trans b a c f e) q
+    go true e false f = not-both (before b c) (ap (λ (n : List ℕ). before n c) (sym (before-neither a b p f)) ∙ e) q
+
 -- the order of two names says whether one stands before the other
 abbrev pub isBefore : Order → Bool
 isBefore Before = true

@@ -49,3 +49,8 @@ indexOf base ps = flat (bytesOf 8) (map (λ (p : Placed). base + p .at) ps)
 -- the first i entries as they stand, and then the others in name order
 unfoldable pub sortedFrom : ℕ → List Placed → List Placed
 sortedFrom i ps = take i ps ++ sort (drop i ps)
+
+-- an index buffer as it is once filled
+pub record Filled (entries : List ℕ) (count base : ℕ) (index : List ℕ) : Type 0 where
+  pub able : Indexable entries count base (length index)
+  pub held : take (8 * count) index ≡ indexOf base (sort (entriesFrom count entries 0 .list))
