@@ -112,25 +112,25 @@ module _ (bs : List ℕ) (count base : ℕ) where
 
 -- ---- all insertions, from the back
 
+-- the places from i on are sorted
+pub record Sorting (bs : List ℕ) (count base : ℕ) (d index : List ℕ) (i : ℕ) : Type 0 where
+  pub within : i ≤ count
+  pub held : index ≡ over (indexOf base (sortedFrom i (entriesFrom count bs 0 .list))) d
+
 module _ (bs : List ℕ) (count base : ℕ) (d : List ℕ) (r : Indexable bs count base (length d)) where
   abbrev all : List Placed
   all = entriesFrom count bs 0 .list
 
-  -- the places from i on are sorted
-  pub record Sorting (index : List ℕ) (i : ℕ) : Type 0 where
-    pub within : i ≤ count
-    pub held : index ≡ over (indexOf base (sortedFrom i all)) d
-
   length-part : (i : ℕ) → length (indexOf base (sortedFrom i all)) ≡ 8 * count
   length-part i = length-index base (sortedFrom i all) ∙ ap (λ (k : ℕ). 8 * k) (length-sortedFrom i all ∙ length-walk bs count 0 (r .whole))
 
-  pub sorting-start : take (8 * count) d ≡ indexOf base all → Sorting d count
+  pub sorting-start : take (8 * count) d ≡ indexOf base all → Sorting bs count base d d count
   sorting-start t =
       let n = sorted-none count all (length-walk bs count 0 (r .whole)) in
       let k : take (8 * count) d ≡ indexOf base (sortedFrom count all) = t ∙ ap (indexOf base) (sym n) in
       record { within = omega arith; held = sym (over-front (indexOf base (sortedFrom count all)) d (8 * count) k (length-part count)) }
 
-  module _ (index : List ℕ) (i : ℕ) (s : Sorting index i) where
+  module _ (index : List ℕ) (i : ℕ) (s : Sorting bs count base d index i) where
     pub sorting-long : length index ≡ length d
     sorting-long = ap length (s .held) ∙ length-over (indexOf base (sortedFrom i all)) d (omega (arith, length-part i, r .room))
 
@@ -142,7 +142,7 @@ module _ (bs : List ℕ) (count base : ℕ) (d : List ℕ) (r : Indexable bs cou
           (omega (arith, s .within), rw e (ap (take (8 * count)) (s .held) ∙ take-over (indexOf base (sortedFrom i all)) d (8 * count) (length-part i))),
         )
 
-    pub sorting-more : 0 < i → (new : List ℕ) → new ≡ over (indexOf base (sortedFrom (i - 1) all)) index → Sorting new (i - 1)
+    pub sorting-more : 0 < i → (new : List ℕ) → new ≡ over (indexOf base (sortedFrom (i - 1) all)) index → Sorting bs count base d new (i - 1)
     sorting-more h new e =
         record {
           within = omega (arith, s .within);

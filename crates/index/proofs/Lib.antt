@@ -7,3 +7,4 @@ pub mod SortLaws
 pub mod InsertLaws
 pub mod StoreLaws
 pub mod FirstLaws
+pub mod SearchLaws

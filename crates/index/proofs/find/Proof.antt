@@ -1,85 +1,81 @@
+use mathlib.Core.Path.{_≡_, sym, ap, _∙_}
+use Prim.Native.Nat.{_+_, _-_, _/_, _≤_}
+use Rattle.voice.specs.Voice.{entriesFrom, sort}
+use Rattle.index.specs.Index.{periodsOf, foundOf}
+use Rattle.index.specs.declared.FoundEntry.the-variants.{Found}
+use Rattle.index.proofs.SearchLaws.{sort-lookup, sort-ascending, length-sorted, compared, told-before, told-same, told-after, Between, between-start, between-end, between-up, between-down, between-here}
+use borrow.Author.Needs.{needs}
+use native.Mathlib.Omega.{arith}
 use Rattle.index.proofs.find.Statement.{statement}
 use Rattle.index.proofs.find.Tie as tie
-use Rattle.index.proofs.find.Reads as reads
-use Rattle.index.proofs.find.Lts as lts
-use Rattle.index.proofs.name_at.Reads as name-at-reads
-use Rattle.index.proofs.periods_at.Reads as periods-at-reads
-use Rattle.index.proofs.sorted_place.Reads as sorted-place-reads
-use Rattle.text.proofs.compare.Reads as compare-reads
 
 abbrev Inv-loop : tie.InvT-loop
-Inv-loop entries count base index name lo₀ hi₀ lo hi = ?
+Inv-loop entries count base index name lo₀ hi₀ lo hi = (hi ≤ count) × Between (sort (entriesFrom count entries 0 .list)) name lo hi
 
 abbrev μ-loop : tie.MeasureT-loop
-μ-loop entries count base index name lo₀ hi₀ lo hi = ?
+μ-loop entries count base index name lo₀ hi₀ lo hi = hi - lo
 
--- src/lib.rt:376:5
 loop-holds : tie.Need-loop-holds Inv-loop μ-loop
-loop-holds c = ?
+loop-holds c = (omega arith, between-start _ _ _ (length-sorted _ _ (c .before .before .before .pre .0 .able .whole)))
 
--- src/lib.rt:377:25
 sub-mid : tie.Need-sub-mid Inv-loop μ-loop
-sub-mid c = ?
+sub-mid c = omega (arith, c .before .loop .inv .1 .order)
 
--- src/lib.rt:377:19
 add-mid : tie.Need-add-mid Inv-loop μ-loop
-add-mid c = ?
+add-mid c = search needs
 
--- src/lib.rt:378:13
 sorted-place-requires : tie.Need-sorted-place-requires Inv-loop μ-loop
-sorted-place-requires c κs = ?
+sorted-place-requires c κs = (c .before .before .before .before .before .pre .0, omega arith)
 
--- src/lib.rt:379:29
 name-at-requires : tie.Need-name-at-requires Inv-loop μ-loop
-name-at-requires c κs = ?
+name-at-requires c κs = c .sorted-place .ensures .1
 
--- src/lib.rt:379:15
 compare-requires : tie.Need-compare-requires Inv-loop μ-loop
-compare-requires c κs = ?
+compare-requires c κs = search needs
 
--- src/lib.rt:380:35
 enum-told : tie.Need-enum-told Inv-loop μ-loop
-enum-told c = ?
+enum-told c = search needs
 
--- src/lib.rt:380:35
 add-lo : tie.Need-add-lo Inv-loop μ-loop
-add-lo c = ?
+add-lo c = search needs
 
--- src/lib.rt:376:5
 loop-less : tie.Need-loop-less Inv-loop μ-loop
-loop-less c = ?
+loop-less c = search needs
 
--- src/lib.rt:376:5
 loop-again : tie.Need-loop-again Inv-loop μ-loop
-loop-again c = ?
+loop-again c =
+    let l = c .before .before .before .before .before .before .loop in
+    let o = compared _ _ _ _ _ _ (c .before .before .compare .ensures) (c .enum-told .given .1) (c .before .before .before .name-at .ensures) (c .before .before .before .before .sorted-place .ensures .0) in
+    (l .inv .0, between-up _ _ (sort-ascending _ (c .before .before .before .before .before .before .before .before .before .before .pre .1)) _ _ (l .lo + (l .hi - l .lo) / 2) (l .inv .1) (omega arith) (omega arith) (told-before _ _ o))
 
--- src/lib.rt:381:53
 enum-told-2 : tie.Need-enum-told-2 Inv-loop μ-loop
-enum-told-2 c = ?
+enum-told-2 c = search needs
 
--- src/lib.rt:381:53
 periods-at-requires : tie.Need-periods-at-requires Inv-loop μ-loop
-periods-at-requires c κs = ?
+periods-at-requires c κs = c .before .before .before .before .sorted-place .ensures .1
 
--- src/lib.rt:381:28
 returns : tie.Need-returns Inv-loop μ-loop
-returns c = ?
+returns c =
+    let l = c .before .before .before .before .before .before .before .loop in
+    let s = c .before .before .before .before .before .sorted-place .ensures .0 in
+    let o = compared _ _ _ _ _ _ (c .before .before .before .compare .ensures) (c .before .enum-told2 .given .1) (c .before .before .before .before .name-at .ensures) s in
+    let h = between-here _ _ (sort-ascending _ (c .before .before .before .before .before .before .before .before .before .before .before .pre .1)) _ _ (l .lo + (l .hi - l .lo) / 2) (l .inv .1) (omega arith) (omega arith) (told-same _ _ o) in
+    ap Found (c .periods-at .ensures .0 ∙ ap periodsOf s) ∙ ap foundOf (sym h ∙ sort-lookup _ (c .before .before .before .before .before .before .before .before .before .before .before .pre .1) _)
 
--- src/lib.rt:382:29
 enum-told-3 : tie.Need-enum-told-3 Inv-loop μ-loop
-enum-told-3 c = ?
+enum-told-3 c = search needs
 
--- src/lib.rt:376:5
 loop-less-2 : tie.Need-loop-less-2 Inv-loop μ-loop
-loop-less-2 c = ?
+loop-less-2 c = search needs
 
--- src/lib.rt:376:5
 loop-again-2 : tie.Need-loop-again-2 Inv-loop μ-loop
-loop-again-2 c = ?
+loop-again-2 c =
+    let l = c .before .before .before .before .before .before .loop in
+    let o = compared _ _ _ _ _ _ (c .before .before .compare .ensures) (c .enum-told3 .given .1) (c .before .before .before .name-at .ensures) (c .before .before .before .before .sorted-place .ensures .0) in
+    (omega arith, between-down _ _ (sort-ascending _ (c .before .before .before .before .before .before .before .before .before .before .pre .1)) _ _ (l .lo + (l .hi - l .lo) / 2) (l .inv .1) (omega arith) (omega arith) (told-after _ _ o))
 
--- src/lib.rt:364:1
 returns-2 : tie.Need-returns-2 Inv-loop μ-loop
-returns-2 c = ?
+returns-2 c = ap foundOf (sym (between-end _ _ _ _ (c .before .loop .inv .1) (omega arith)) ∙ sort-lookup _ (c .before .before .before .before .before .pre .1) _)
 
 pub find-spec : {M : Type 1} → statement M
 find-spec =
