@@ -15,7 +15,7 @@ use Rattle.voice.specs.Voice.{Placed, entryAt, nextEntry, entriesFrom, insert, 
 use Rattle.index.specs.Index.{indexOf, sortedFrom, Indexable}
 use Rattle.index.proofs.WalkLaws.{placed}
 use Rattle.index.proofs.BufferLaws.{over-front, over-over, length-index, place-read, place-stored}
-use Rattle.index.proofs.SortLaws.{Stored, insert-none, insert-here, insert-later, each-sort, each-drop, each-first, each-rest, each-stored, length-walk, length-sort, length-sortedFrom, sorted-none, sorted-all, sorted-next, sorted-here}
+use Rattle.index.proofs.SortLaws.{Stored, insert-none, insert-here, insert-later, each-sort, each-drop, each-at, each-stored, length-walk, length-sort, length-sortedFrom, sorted-none, sorted-all, sorted-next, sorted-here}
 
 module _ (bs : List ℕ) (count base : ℕ) where
   -- Place j - 1 of the index is free; `front` stands before it, `rest` behind it. The entry p, stored as `place`, is still to come.
@@ -95,9 +95,7 @@ module _ (bs : List ℕ) (count base : ℕ) where
       let p = getD ps i (placed bs 0) in
       let front = take i ps in
       let rest = sort (drop (suc i) ps) in
-      let each = each-drop (Stored bs) i ps (each-stored bs count 0) in
-      let stored : Each (Stored bs) (p ∷ drop (suc i) ps) = rw (drop-cons ps i (placed bs 0) h) at each in
-      let s = each-first (Stored bs) p (drop (suc i) ps) stored in
+      let s = each-at (Stored bs) i ps (placed bs 0) h (each-stored bs count 0) in
       let k = sorted-next i ps (placed bs 0) h in
       let lf : length front ≡ i = length-take-le i ps (omega arith) in
       let m : length (indexOf base (sortedFrom (i + 1) ps)) ≡ 8 * count = length-index base (sortedFrom (i + 1) ps) ∙ ap (λ (c : ℕ). 8 * c) (length-sortedFrom (i + 1) ps ∙ n) in
@@ -107,7 +105,7 @@ module _ (bs : List ℕ) (count base : ℕ) where
       let is : place ≡ base + p .at = v ∙ ap (λ (l : List ℕ). u64At l i) held ∙ ap (u64At (over (indexOf base (front ++ (p ∷ rest))) index)) (sym lf) ∙ place-read base front p rest index small in
       let size : length front + suc (length rest) ≡ count = sym (length-append front (p ∷ rest)) ∙ ap length (sym k) ∙ length-sortedFrom (i + 1) ps ∙ n in
       moving p p front rest s is
-      (each-sort (Stored bs) (drop (suc i) ps) (each-rest (Stored bs) p (drop (suc i) ps) stored))
+      (each-sort (Stored bs) (drop (suc i) ps) (each-drop (Stored bs) (suc i) ps (each-stored bs count 0)))
       held (omega arith) (omega arith) (sym (sorted-here i ps (placed bs 0) h))
 
 -- ---- all insertions, from the back

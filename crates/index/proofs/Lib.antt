@@ -8,3 +8,4 @@ pub mod InsertLaws
 pub mod StoreLaws
 pub mod FirstLaws
 pub mod SearchLaws
+pub mod FilledLaws

@@ -24,7 +24,7 @@ use Rattle.index.specs.Index.{firstOf, beforeFirst, ascending, indexOf, 
 use Rattle.index.proofs.OrderLaws.{isBefore, before-order, not-both, before-self, before-trans, before-neither, before-other, ascending-first, ascending-rest, first-trans}
 use Rattle.index.proofs.WalkLaws.{placed}
 use Rattle.index.proofs.BufferLaws.{over-front, length-index, place-read}
-use Rattle.index.proofs.SortLaws.{Stored, insert-none, insert-here, insert-later, each-sort, each-drop, each-first, each-stored, length-walk, length-sort}
+use Rattle.index.proofs.SortLaws.{Stored, insert-none, insert-here, insert-later, each-sort, each-at, each-stored, length-walk, length-sort}
 use Rattle.index.proofs.TestLaws.{lookup-none, lookup-here, lookup-next}
 
 -- ---- the entry that a place of the filled index stands for
@@ -42,9 +42,7 @@ filled-read bs count base index f i l v e =
     let h : i < length ps = omega arith in
     let p = getD ps i (placed bs 0) in
     let d = drop-cons ps i (placed bs 0) h in
-    let each = each-drop (Stored bs) i ps (each-sort (Stored bs) (entriesFrom count bs 0 .list) (each-stored bs count 0)) in
-    let stored : Each (Stored bs) (p ∷ drop (suc i) ps) = rw d at each in
-    let s = each-first (Stored bs) p (drop (suc i) ps) stored in
+    let s = each-at (Stored bs) i ps (placed bs 0) h (each-sort (Stored bs) (entriesFrom count bs 0 .list) (each-stored bs count 0)) in
     let m : length (indexOf base ps) ≡ 8 * count = length-index base ps ∙ ap (λ (k : ℕ). 8 * k) n in
     let held : index ≡ over (indexOf base (take i ps ++ (p ∷ drop (suc i) ps))) index =
     sym (over-front (indexOf base ps) index (8 * count) (f .held) m) ∙ ap (λ (qs : List Placed). over (indexOf base qs) index) (split-at ps i (placed bs 0) h) in

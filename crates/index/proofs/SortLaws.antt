@@ -66,11 +66,10 @@ module _ (P : Placed → Type 0) where
   each-drop (suc n) [] nil = nil
   each-drop (suc n) (p ∷ ps) (cons h e) = each-drop n ps e
 
-  pub each-first : (p : Placed) (ps : List Placed) → Each P (p ∷ ps) → P p
-  each-first p ps (cons h e) = h
-
-  pub each-rest : (p : Placed) (ps : List Placed) → Each P (p ∷ ps) → Each P ps
-  each-rest p ps (cons h e) = e
+  pub each-at : (i : ℕ) (ps : List Placed) (z : Placed) → i < length ps → Each P ps → P (getD ps i z)
+  each-at i [] z h nil = absurd (omega arith)
+  each-at zero (p ∷ ps) z h (cons k e) = k
+  each-at (suc i) (p ∷ ps) z h (cons k e) = each-at i ps z (omega arith) e
 
 -- ---- the entries of an index, where they stand
 

@@ -46,6 +46,16 @@ fn next_entry(entries: &[u8], at: usize) -> usize
     at + 5 + byte_at(entries, at)
 }
 
+// The name of the entry at a place.
+fn name_at(entries: &[u8], at: usize) -> &[u8]
+    requires { ⌜ nextEntry (now entries) at ≤ length (now entries) ⌝ }
+    ensures { λ r. ⌜ now r ≡ entryAt (now (entries .entry)) at .name ⌝ }
+{
+    let from = at + 1;
+    let to = from + byte_at(entries, at);
+    &entries[from..to]
+}
+
 // Whether the entry at a place is not cut short and its name is UTF-8.
 fn is_whole(entries: &[u8], at: usize) -> bool
     ensures { λ r. ⌜ r ≡ wholeEntry (now (entries .entry)) at ⌝ }
@@ -53,12 +63,10 @@ fn is_whole(entries: &[u8], at: usize) -> bool
     if entries.len() <= at {
         return false;
     }
-    let from = at + 1;
-    let to = from + byte_at(entries, at);
-    if entries.len() < to + 4 {
+    if entries.len() < at + 5 + byte_at(entries, at) {
         return false;
     }
-    text::utf8(&entries[from..to])
+    text::utf8(name_at(entries, at))
 }
 
 // Whether the index has `count` entries, none cut short, each name UTF-8.
@@ -111,16 +119,6 @@ pub fn ends_within(entries: &[u8], count: usize, frames: usize) -> bool
         left -= 1;
     }
     true
-}
-
-// The name of the entry at a place.
-fn name_at(entries: &[u8], at: usize) -> &[u8]
-    requires { ⌜ nextEntry (now entries) at ≤ length (now entries) ⌝ }
-    ensures { λ r. ⌜ now r ≡ entryAt (now (entries .entry)) at .name ⌝ }
-{
-    let from = at + 1;
-    let to = from + byte_at(entries, at);
-    &entries[from..to]
 }
 
 // Whether the name of the entry at place a stands before that at place b.
@@ -188,7 +186,7 @@ fn stands_among(entries: &[u8], at: usize, from: usize, count: usize) -> bool
 }
 
 // Whether no name stands twice, each compared with all that follow.
-fn differ(entries: &[u8], count: usize) -> bool
+fn names_differ(entries: &[u8], count: usize) -> bool
     requires { ⌜ entriesFrom count (now entries) 0 .whole ≡ true ⌝ }
     ensures { λ r. ⌜ r ≡ distinct (entriesFrom count (now (entries .entry)) 0 .list) ⌝ }
 {
@@ -213,7 +211,7 @@ pub fn has_distinct_names(entries: &[u8], count: usize) -> bool
     if is_ascending(entries, count) {
         return true;
     }
-    differ(entries, count)
+    names_differ(entries, count)
 }
 
 // Stores where each entry begins in the file at the front of the index, in file order.

@@ -6,8 +6,8 @@ use Rattle.index.proofs.WalkLaws.{Walk, turn, step, stop, end}
 use Rattle.index.proofs.TestLaws.{distinct-none, distinct-twice, distinct-more}
 use borrow.Author.Needs.{needs}
 use native.Mathlib.Omega.{arith}
-use Rattle.index.proofs.differ.Statement.{statement}
-use Rattle.index.proofs.differ.Tie as tie
+use Rattle.index.proofs.names_differ.Statement.{statement}
+use Rattle.index.proofs.names_differ.Tie as tie
 
 abbrev Inv-loop : tie.InvT-loop
 Inv-loop entries count at₀ left₀ at left = Walk entries distinct (distinct (entriesFrom count entries at₀ .list)) left at
@@ -49,8 +49,8 @@ loop-again c =
 returns-2 : tie.Need-returns-2 Inv-loop μ-loop
 returns-2 c = end _ _ _ _ _ (c .before .loop .inv) (omega arith) _ distinct-none
 
-pub differ-spec : {M : Type 1} → statement M
-differ-spec =
+pub names-differ-spec : {M : Type 1} → statement M
+names-differ-spec =
     tie.close
     (tie.spec
     Inv-loop
