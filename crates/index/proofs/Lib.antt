@@ -1,0 +1,11 @@
+-- The root of index's laws.
+pub mod WalkLaws
+pub mod OrderLaws
+pub mod TestLaws
+pub mod BufferLaws
+pub mod SortLaws
+pub mod InsertLaws
+pub mod StoreLaws
+pub mod FirstLaws
+pub mod SearchLaws
+pub mod FilledLaws

@@ -1,0 +1,2 @@
+-- The root of index's definitions.
+pub mod Index
