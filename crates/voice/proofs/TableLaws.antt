@@ -18,11 +18,11 @@ use Rattle.base.specs.declared.Span.{Span}
 use Rattle.base.proofs.ListLaws.{length-part, every-at}
 use Rattle.container.specs.declared.Found.{Found}
 use Rattle.container.specs.declared.Found.the-variants.{At, Missing}
-use Rattle.container.specs.Sections.{sections, bytesAt}
+use Rattle.container.specs.Sections.{find, spanOf, sections, bytesAt}
 use Rattle.container.proofs.SectionLaws.{section-within, found-within}
 use Rattle.voice.specs.declared.DiphoneVoice.{DiphoneVoice}
 use Rattle.voice.specs.declared.VoiceHeader.{VoiceHeader}
-use Rattle.voice.specs.Header.{goodNumbers}
+use Rattle.voice.specs.Header.{goodNumbers, goodHeader}
 use Rattle.voice.specs.Periods.{offset}
 use Rattle.voice.specs.Voice.{Voice, sizesAt, voiceAt, placesOf, voiceOf}
 use Rattle.voice.specs.Opening.{risingIn, longEnough, hasSizes, goodTables}
@@ -134,3 +134,8 @@ module _ (file : List ℕ) (d : DiphoneVoice) (p : d ≡ placesOf file) where
 pub order-low : (h : VoiceHeader) → goodNumbers h ≡ true → h .frames * h .order ≤ h .frames * 32
 unfolding goodNumbers
 order-low h e = mul-le-mul-left (h .frames) (leb-true (h .order) 32 (every-at _ e 1))
+
+-- a good header's numbers are those of the places
+pub numbers-of : (file : List ℕ) (d : DiphoneVoice) → d ≡ placesOf file → goodHeader (bytesAt file (spanOf (find (ascii "sts.header") (sections file .list)))) ≡ true → goodNumbers (d .header) ≡ true
+unfolding goodHeader placesOf
+numbers-of file d p h = rw p (every-at _ h 1)

@@ -96,19 +96,23 @@ goodIndex file =
     ∷ withinFrames (d .header .frames) (i .list)
     ∷ [])
 
+-- 5 to 7, with their causes
+abbrev pub tableChecks : List ℕ → List (Bool × Refusal)
+tableChecks file =
+    (goodHeader (bytesAt file (spanOf (find (ascii "sts.header") (sections file .list)))), BadHeader)
+    ∷ (goodTables (voiceOf file), BadTables)
+    ∷ (goodIndex file, BadIndex)
+    ∷ []
+
 -- what refuses a voice file, whatever index buffer comes with it: 1 to 7
 unfoldable pub openingRefusal : List ℕ → Option Refusal
 openingRefusal file =
-    let ss = sections file .list in
     firstFailing
     ((hasMagic file, BadMagic)
     ∷ (sections file .whole, SectionCut)
     ∷ (isDiphone file, NotDiphone)
-    ∷ (hasNeeded ss, MissingSection)
-    ∷ (goodHeader (bytesAt file (spanOf (find (ascii "sts.header") ss))), BadHeader)
-    ∷ (goodTables (voiceOf file), BadTables)
-    ∷ (goodIndex file, BadIndex)
-    ∷ [])
+    ∷ (hasNeeded (sections file .list), MissingSection)
+    ∷ tableChecks file)
 
 -- a voice file that opens, and where its tables stand
 pub record IsOpen (file : List ℕ) (d : DiphoneVoice) : Type 0 where

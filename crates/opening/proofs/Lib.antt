@@ -1,0 +1,2 @@
+-- Laws for the opening.
+pub mod IndexLaws

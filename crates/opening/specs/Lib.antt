@@ -1,0 +1,1 @@
+-- The root of opening's definitions: there are none beside those of `voice`.
