@@ -7,7 +7,7 @@ use native.Mathlib.Nat.{zero-add, mul-zero, mul-suc, eq-or-lt-of-le, le-of-suc-l
 use native.Mathlib.Numerals.{add-one}
 use native.Mathlib.Omega.{arith}
 use lib.ListN.{length, take, drop, getD, set, length-append, length-drop, drop-of-length-le, List·getD-append}
-use lib.Seq.{ext-getD, getD-at, take-at, drop-at, sets, sets-eq, take-append-seam, drop-append-add, drop-drop}
+use lib.Seq.{ext-getD, getD-at, take-length, take-suc, length-take-le, take-at, drop-at, sets, sets-eq, take-append-seam, drop-append-add, drop-drop}
 use Rattle.base.specs.Buffers.{over, flat, upto}
 
 -- ---- over
@@ -157,3 +157,22 @@ module _ {A : Type 0} (f : ℕ → A) (n : ℕ) (d : List A) where
 
   pub length-stored : n ≤ length d → length (over (upto f n) d) ≡ length d
   length-stored h = length-over (upto f n) d (rw length-upto h)
+
+-- a list that is copied element by element
+module _ {A : Type 0} (s d : List A) (h : length s ≤ length d) where
+  pub copied-none : d ≡ over (take 0 s) d
+  unfolding over
+  copied-none = refl
+
+  pub copied-more : (i : ℕ) (z : A) → i < length s → set (over (take i s) d) i (getD s i z) ≡ over (take (i + 1) s) d
+  copied-more i z l =
+      let e : length (take i s) ≡ i = length-take-le i s (omega arith) in
+      let g : length (take i s) + 1 ≤ length d = omega arith in
+      let m : set (over (take i s) d) (length (take i s)) (getD s i z) ≡ over (take i s ++ (getD s i z ∷ [])) d = over-more (take i s) (getD s i z ∷ []) d g in
+      rw e at m ∙ ap (λ (t : List A). over t d) (sym (ap (λ (n : ℕ). take n s) (add-one i) ∙ take-suc s i z l))
+
+  pub copied-length : (i : ℕ) → i ≤ length s → length (over (take i s) d) ≡ length d
+  copied-length i l = length-over (take i s) d (let e : length (take i s) ≡ i = length-take-le i s l in omega arith)
+
+  pub copied-all : (i : ℕ) → i ≡ length s → over (take i s) d ≡ over s d
+  copied-all i e = ap (λ (t : List A). over t d) (ap (λ (n : ℕ). take n s) e ∙ take-length s)

@@ -4,6 +4,7 @@ ghost use mathlib.Core.Path.{_≡_};
 ghost use Prim.Native.Nat.{_+_, _*_, _≤_};
 ghost use lib.ListN.{length};
 ghost use lib.Seq.{sets};
+ghost use Rattle.base.specs.Buffers.{over};
 ghost use Rattle.base.specs.Bytes.{littleEndian, bytesOf, u16At, u32At, u64At};
 
 // A byte, with its bound.
@@ -110,4 +111,16 @@ pub fn put_u64(buf: &mut [u8], i: usize, v: u64)
     ensures { λ _. ⌜ now (buf .exit) ≡ sets (now (buf .entry)) (8 * i) (bytesOf 8 v) ⌝ }
 {
     write_u64(buf, 8 * i, v);
+}
+
+// Copies bytes to the front of a buffer.
+pub fn copy(from: &[u8], buf: &mut [u8])
+    requires { ⌜ length (now from) ≤ length (now buf) ⌝ }
+    ensures { λ _. ⌜ now (buf .exit) ≡ over (now (from .entry)) (now (buf .entry)) ⌝ }
+{
+    let mut i = 0;
+    while i < from.len() {
+        buf[i] = from[i];
+        i += 1;
+    }
 }

@@ -19,7 +19,7 @@ use Rattle.voice.specs.declared.Codec.{Codec}
 use Rattle.voice.specs.declared.Codec.the-variants.{Ulaw, G721}
 use Rattle.voice.specs.Header.{codecOf}
 use Rattle.voice.specs.Voice.{Voice, voiceOf}
-use Rattle.voice.specs.Periods.{residualOf, longest}
+use Rattle.voice.specs.Periods.{residualOf, decodeRoom}
 use Rattle.voice.specs.Opening.{openingRefusal, indexFits, indexBytes}
 use Rattle.sheet.specs.Sheet.{Sheet, sheetOf, sheetRefusal}
 use Rattle.excitation.specs.Source.{decodedBy}
@@ -64,14 +64,6 @@ filled v s o =
     }
 
 -- ---- 13: a buffer lent is shorter than stated
-
--- 'In every call the G.721 decode buffer needs twice the bytes of the voice's longest period (0 for mu-law)'
-abbrev pub decodeRoomBy : Codec → ℕ → ℕ
-decodeRoomBy Ulaw n = 0
-decodeRoomBy G721 n = 2 * n
-
-unfoldable pub decodeRoom : Voice → ℕ
-decodeRoom v = decodeRoomBy (codecOf (v .header)) (longest v (v .header .frames))
 
 -- each buffer has as many whole elements as the call fills, and the decode buffer its room
 unfoldable pub fits : Voice → Sheet → Settings → Buffers → Bool

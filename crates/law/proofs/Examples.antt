@@ -17,7 +17,7 @@ use Rattle.text.specs.Trim.{spaceAt, trimStartBy, trimStart, trimEnd, trim}
 use Rattle.container.specs.Sections.{magic, hasMagic, isWhole, sectionsFrom, sections, find, saysDiphone, isDiphone}
 use Rattle.voice.specs.Header.{headerOf, inScale, goodNumbers, goodScales, goodHeader}
 use Rattle.voice.specs.Voice.{entryAt, wholeEntry, entriesFrom, voiceAt, placesOf, voiceOf, lookup, insert, sort, sorted, sortedIndex}
-use Rattle.voice.specs.Periods.{offset, residualOf, samplesOf, samplesFrom, rowOf, longest}
+use Rattle.voice.specs.Periods.{offset, residualOf, samplesOf, samplesFrom, rowOf, longest, decodeRoom}
 use Rattle.voice.specs.Opening.{indexFits, hasNeeded, risingIn, goodTables, withinFrames, distinct, goodIndex, openingRefusal}
 use Rattle.sheet.specs.Sheet.{_andThen_, groups, count, printable, name, isFinite, finite, valueOf, value, asF32, segment, target, repeated, sheetFrom, sheetRefusal, sheetOf}
 use Rattle.phoneset.specs.Phones.{vowels, consonants, vc, isVowel}
@@ -32,7 +32,7 @@ use Rattle.lpc.specs.Filter.{cut, outputs, samples, periodsFrom}
 use Rattle.lpc.specs.Fixed.{scaledBy, rowValue, fixedSum, divided, fixedNext, fixedFilter}
 use Rattle.lpc.specs.State.{freshState, periodsBy}
 use Rattle.diphone.specs.Call.{simplePlan, planBy, planOf, periodsTaken, sizesOf, rowsOf, excitationOf, periodsOf}
-use Rattle.diphone.specs.Buffers.{decodedOver, filled, decodeRoom, fits, checkRefusal, callRefusal, summaryOf, plannedOf}
+use Rattle.diphone.specs.Buffers.{decodedOver, filled, fits, checkRefusal, callRefusal, summaryOf, plannedOf}
 use Rattle.law.specs.ProvedExamples.{Table, Printed, Edges, PorterErrors, exampleVoice, segmentsOf}
 
 -- the twelve rows

@@ -6,6 +6,9 @@ use lib.ListN.{getD}
 use Rattle.base.specs.Lists.{part}
 use Rattle.base.specs.Buffers.{upto}
 use Rattle.base.specs.Bytes.{u16At, u32At}
+use Rattle.voice.specs.declared.Codec.{Codec}
+use Rattle.voice.specs.declared.Codec.the-variants.{Ulaw, G721}
+use Rattle.voice.specs.Header.{codecOf}
 use Rattle.voice.specs.Voice.{Voice}
 
 -- where period i begins in the residual: entry i of `sts.resoffs`
@@ -40,3 +43,11 @@ rowOf v p = upto (λ k. u16At (v .lpc) (p * v .header .order + k)) (v .header .o
 unfoldable pub longest : Voice → ℕ → ℕ
 longest v zero = 0
 longest v (suc n) = max (gap v n) (longest v n)
+
+-- 'In every call the G.721 decode buffer needs twice the bytes of the voice's longest period (0 for mu-law)'
+abbrev pub decodeRoomBy : Codec → ℕ → ℕ
+decodeRoomBy Ulaw n = 0
+decodeRoomBy G721 n = 2 * n
+
+unfoldable pub decodeRoom : Voice → ℕ
+decodeRoom v = decodeRoomBy (codecOf (v .header)) (longest v (v .header .frames))

@@ -1,6 +1,6 @@
 // The pitch periods of an open voice: samples, residual and row of each.
 ghost use mathlib.Core.Path.{_≡_};
-ghost use Prim.Native.Nat.{_+_, _*_, _≤_, _<_};
+ghost use Prim.Native.Nat.{max, _+_, _*_, _≤_, _<_};
 ghost use Rattle.base.specs.Buffers.{flat};
 ghost use Rattle.base.specs.Bytes.{bytesOf};
 ghost use Rattle.voice.specs.Voice.{voiceOf};
@@ -64,4 +64,40 @@ pub fn row<'a>(file: &'a [u8], d: DiphoneVoice, p: usize) -> &'a [u8]
         len: width,
     };
     super::sections::bytes_at(file, part)
+}
+
+// The larger of two numbers.
+fn larger(a: usize, b: usize) -> usize
+    ensures { λ r. ⌜ r ≡ max a b ⌝ }
+{
+    if a < b {
+        return b;
+    }
+    a
+}
+
+// The bytes of the longest period.
+fn longest(file: &[u8], d: DiphoneVoice) -> usize
+    requires { ⌜ IsOpen (now file) d ⌝ }
+    ensures { λ r. ⌜ (r ≡ periods.longest (voiceOf (now (file .entry))) (d .header .frames)) × (r ≤ 16777215) ⌝ }
+{
+    let frames = d.header.frames as usize;
+    let mut most = 0;
+    let mut p = 0;
+    while p < frames {
+        most = larger(gap(file, d, p), most);
+        p += 1;
+    }
+    most
+}
+
+// How many bytes a call's decode buffer needs.
+pub fn decode_room(file: &[u8], d: DiphoneVoice) -> usize
+    requires { ⌜ IsOpen (now file) d ⌝ }
+    ensures { λ r. ⌜ (r ≡ periods.decodeRoom (voiceOf (now (file .entry)))) × (r ≤ 33554430) ⌝ }
+{
+    if d.header.codec == 0 {
+        return 0;
+    }
+    2 * longest(file, d)
 }

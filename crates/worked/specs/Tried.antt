@@ -21,7 +21,7 @@ use Rattle.text.specs.Trim.{spaceAt, trimStartBy, trimStart, trimEnd, trim}
 use Rattle.container.specs.Sections.{magic, hasMagic, isWhole, sectionsFrom, sections, find, saysDiphone, isDiphone}
 use Rattle.voice.specs.Header.{headerOf, inScale, goodNumbers, goodScales, goodHeader}
 use Rattle.voice.specs.Voice.{entryAt, wholeEntry, entriesFrom, voiceAt, placesOf, voiceOf, lookup, insert, sort, sorted, sortedIndex}
-use Rattle.voice.specs.Periods.{offset, residualOf, samplesOf, samplesFrom, rowOf, longest}
+use Rattle.voice.specs.Periods.{offset, residualOf, samplesOf, samplesFrom, rowOf, longest, decodeRoom}
 use Rattle.voice.specs.Opening.{hasNeeded, risingIn, goodTables, withinFrames, distinct, goodIndex, openingRefusal, indexFits}
 use Rattle.phoneset.specs.Phones.{vowels, consonants, vc, isVowel}
 use Rattle.sheet.specs.Sheet.{_andThen_, groups, count, printable, name, isFinite, finite, valueOf, value, asF32, segment, target, repeated, sheetFrom, sheetRefusal, sheetOf}
@@ -41,7 +41,7 @@ use Rattle.diphone.specs.declared.Settings.{Settings}
 use Rattle.diphone.specs.declared.Called.{Called}
 use Rattle.diphone.specs.declared.Called.the-variants.{Spoken, Refused}
 use Rattle.diphone.specs.Call.{simplePlan, modifiedPlan, planBy, planOf, periodsTaken, sizesOf, rowsOf, excitationOf, periodsOf}
-use Rattle.diphone.specs.Buffers.{Buffers, decodedOver, filled, decodeRoom, fits, checkRefusal, callRefusal, summaryOf, freshOf, zeroState, plannedOf, buffersAfter, calledNumber}
+use Rattle.diphone.specs.Buffers.{Buffers, decodedOver, filled, fits, checkRefusal, callRefusal, summaryOf, freshOf, zeroState, plannedOf, buffersAfter, calledNumber}
 use Rattle.diphone.specs.Pull.{Lent, possible, nextPart, pullOf, pullNumber}
 use Rattle.diphone.specs.Machine.{Shown, pulls}
 
