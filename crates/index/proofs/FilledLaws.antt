@@ -1,7 +1,7 @@
 -- What callers need of an index that was filled.
 use mathlib.Core.Path.{_≡_, refl, ap, _∙_}
 use mathlib.Core.Bool.{true}
-use mathlib.Core.List.{List, []}
+use mathlib.Core.List.{List}
 use Prim.Native.Nat.{ℕ, _*_}
 use native.Mathlib.Omega.{arith}
 use borrow.Author.Tests.{eq-eqb, ne-eqb}
@@ -11,7 +11,7 @@ use Rattle.base.specs.Buffers.{over}
 use Rattle.base.proofs.BufferLaws.{length-over, take-over}
 use Rattle.base.proofs.CaseLaws.{by-order}
 use Rattle.container.specs.Sections.{bytesAt}
-use Rattle.voice.specs.Voice.{Placed, entriesFrom, sort, sorted, sortedIndex, voiceAt}
+use Rattle.voice.specs.Voice.{entriesFrom, sort, sorted, sortedIndex, voiceAt}
 use Rattle.voice.specs.declared.DiphoneVoice.{DiphoneVoice}
 use Rattle.voice.specs.Opening.{indexBytes, isEmpty}
 use Rattle.index.specs.Index.{Indexable, Filled, indexOf}

@@ -1,21 +1,19 @@
 -- The order of names, and lists in that order.
 use mathlib.Core.Path.{_≡_, refl, sym, ap, _∙_}
-use mathlib.Core.Bool.{Bool, true, false, _&&_, _||_, not}
+use mathlib.Core.Bool.{Bool, true, false}
 use mathlib.Core.List.{List, [], _∷_}
-use mathlib.Core.Logic.{⊎-elim}
-use mathlib.Core.Option.{Option, none, some}
+use mathlib.Core.Option.{none}
 use Prim.Native.Nat.{ℕ, _<_}
 use native.Mathlib.Omega.{arith}
-use borrow.Author.Tests.{ltb-true, eqb-true, lt-ltb, le-ltb, eq-eqb, ne-eqb}
-use lib.Dec.{ltb, eqb}
+use borrow.Author.Tests.{lt-ltb, le-ltb, eq-eqb, ne-eqb}
 use Rattle.base.specs.Choice.{pick}
 use Rattle.base.proofs.ListLaws.{and-left, and-right}
 use Rattle.base.proofs.CaseLaws.{by-order}
 use Rattle.text.specs.Names.{same, before, orderOf}
 use Rattle.text.specs.declared.Order.{Order}
 use Rattle.text.specs.declared.Order.the-variants.{Before, Same, After}
-use Rattle.text.proofs.NameLaws.{same-eq, same-refl}
-use Rattle.voice.specs.Voice.{Entry, Placed, lookup, isSome}
+use Rattle.text.proofs.NameLaws.{same-eq}
+use Rattle.voice.specs.Voice.{Placed, lookup}
 use Rattle.voice.specs.Opening.{distinct}
 use Rattle.index.specs.Index.{beforeFirst, ascending}
 
@@ -97,6 +95,10 @@ before-order a b = go (same a b) refl
     go : (t : Bool) → same a b ≡ t → isBefore (pick t Same (pick (before a b) Before After)) ≡ before a b
     go true e = sym (ap (before a) (sym (same-eq a b e)) ∙ before-self a)
     go false e = other (before a b)
+
+-- two names that were compared
+pub before-told : (x y m n : List ℕ) (o v : Order) → o ≡ v → o ≡ orderOf x y → x ≡ m → y ≡ n → isBefore v ≡ before m n
+before-told x y m n o v e f p q = ap isBefore (sym e ∙ f) ∙ before-order x y ∙ rw (p, q)
 
 pub before-other : (a b : List ℕ) → before a b ≡ true → same b a ≡ false
 before-other a b p = go (same b a) refl
