@@ -1,13 +1,13 @@
 -- The filled index, and a search that halves it.
 use mathlib.Core.Path.{_≡_, refl, sym, ap, _∙_}
-use mathlib.Core.Bool.{Bool, true, false, _&&_, not}
+use mathlib.Core.Bool.{Bool, true, false, not}
 use mathlib.Core.List.{List, [], _∷_, _++_}
 use mathlib.Core.Option.{Option, none, some}
 use Prim.Native.Nat.{ℕ, zero, suc, _+_, _-_, _*_, _^_, _≤_, _<_}
 use native.Mathlib.Numerals.{add-one}
 use native.Mathlib.Omega.{arith}
 use borrow.Author.Tests.{not-true}
-use lib.ListN.{length, take, drop, getD, take-append-drop, length-drop}
+use lib.ListN.{length, take, drop, getD, take-append-drop}
 use lib.Seq.{drop-cons, drop-length, split-at, length-take-le, take-suc}
 use Rattle.base.specs.Choice.{pick}
 use Rattle.base.specs.Buffers.{over}
@@ -20,7 +20,7 @@ use Rattle.text.specs.declared.Order.the-variants.{Before, Same, After}
 use Rattle.text.proofs.NameLaws.{same-eq, same-refl, isSame, same-order}
 use Rattle.voice.specs.Voice.{Entry, Placed, entryAt, nextEntry, entriesFrom, lookup, isSome, insert, sort}
 use Rattle.voice.specs.Opening.{distinct}
-use Rattle.index.specs.Index.{firstOf, beforeFirst, ascending, indexOf, Indexable, Filled}
+use Rattle.index.specs.Index.{firstOf, beforeFirst, ascending, indexOf, Filled}
 use Rattle.index.proofs.OrderLaws.{isBefore, before-order, not-both, before-self, before-trans, before-neither, before-other, ascending-first, ascending-rest, first-trans}
 use Rattle.index.proofs.WalkLaws.{placed}
 use Rattle.index.proofs.BufferLaws.{over-front, length-index, place-read}

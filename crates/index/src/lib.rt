@@ -10,7 +10,7 @@ ghost use Rattle.text.specs.Names.{before};
 ghost use Rattle.voice.specs.Voice.{entryAt, nextEntry, wholeEntry, entriesFrom, isSome, sort};
 ghost use Rattle.voice.specs.Voice as voices;
 ghost use Rattle.voice.specs.Opening.{withinFrames, distinct};
-ghost use Rattle.index.specs.Index.{Indexable, Filled, periodsOf, foundOf, ascending, firstOf, indexOf, sortedFrom};
+ghost use Rattle.index.specs.Index.{Small, Indexable, Filled, periodsOf, foundOf, ascending, firstOf, indexOf, sortedFrom};
 use text::Order;
 
 // The numbers of an entry: its first pitch period, and how many its two halves have.
@@ -91,8 +91,7 @@ fn periods_at(entries: &[u8], at: usize) -> EntryPeriods
     requires { ⌜ nextEntry (now entries) at ≤ length (now entries) ⌝ }
     ensures { λ r.
         ⌜
-        (r ≡ periodsOf (entryAt (now (entries .entry)) at)) ×
-        ((r .start < 2 ^ 16) × ((r .first < 2 ^ 8) × (r .second < 2 ^ 8)))
+        (r ≡ periodsOf (entryAt (now (entries .entry)) at)) × Small r
         ⌝ }
 {
     let place = at + 1 + byte_at(entries, at);
@@ -123,8 +122,14 @@ pub fn ends_within(entries: &[u8], count: usize, frames: usize) -> bool
 
 // Whether the name of the entry at place a stands before that at place b.
 fn stands_before(entries: &[u8], a: usize, b: usize) -> bool
-    requires { ⌜ (nextEntry (now entries) a ≤ length (now entries)) × (nextEntry (now entries) b ≤ length (now entries)) ⌝ }
-    ensures { λ r. ⌜ r ≡ before (entryAt (now (entries .entry)) a .name) (entryAt (now (entries .entry)) b .name) ⌝ }
+    requires { ⌜
+        (nextEntry (now entries) a ≤ length (now entries)) ×
+        (nextEntry (now entries) b ≤ length (now entries))
+        ⌝ }
+    ensures { λ r.
+        ⌜
+        r ≡ before (entryAt (now (entries .entry)) a .name) (entryAt (now (entries .entry)) b .name)
+        ⌝ }
 {
     match text::compare(name_at(entries, a), name_at(entries, b)) {
         Order::Before => true,
@@ -156,7 +161,10 @@ fn is_ascending(entries: &[u8], count: usize) -> bool
 fn lookup_from(entries: &[u8], from: usize, count: usize, name: &[u8]) -> FoundEntry
     requires { ⌜ entriesFrom count (now entries) from .whole ≡ true ⌝ }
     ensures { λ r.
-        ⌜ r ≡ foundOf (voices.lookup (now (name .entry)) (entriesFrom count (now (entries .entry)) from .list)) ⌝ }
+        ⌜
+        r ≡ foundOf
+        (voices.lookup (now (name .entry)) (entriesFrom count (now (entries .entry)) from .list))
+        ⌝ }
 {
     let mut at = from;
     let mut left = count;
@@ -172,7 +180,10 @@ fn lookup_from(entries: &[u8], from: usize, count: usize, name: &[u8]) -> FoundE
 
 // Whether the name of the entry at a place stands among the `count` entries from another place on.
 fn stands_among(entries: &[u8], at: usize, from: usize, count: usize) -> bool
-    requires { ⌜ (nextEntry (now entries) at ≤ length (now entries)) × (entriesFrom count (now entries) from .whole ≡ true) ⌝ }
+    requires { ⌜
+        (nextEntry (now entries) at ≤ length (now entries)) ×
+        (entriesFrom count (now entries) from .whole ≡ true)
+        ⌝ }
     ensures { λ r.
         ⌜
         r ≡ isSome
@@ -324,7 +335,10 @@ fn earlier(entries: &[u8], a: usize, b: usize) -> usize
 // The first entry in name order, without the sorted index.
 pub fn smallest(entries: &[u8], count: usize) -> EntryPeriods
     requires { ⌜ (entriesFrom count (now entries) 0 .whole ≡ true) × (1 ≤ count) ⌝ }
-    ensures { λ r. ⌜ r ≡ periodsOf (firstOf (sort (entriesFrom count (now (entries .entry)) 0 .list))) ⌝ }
+    ensures { λ r.
+        ⌜
+        (r ≡ periodsOf (firstOf (sort (entriesFrom count (now (entries .entry)) 0 .list)))) × Small r
+        ⌝ }
 {
     let mut best = 0;
     let mut at = next_entry(entries, 0);
@@ -353,7 +367,10 @@ fn sorted_place(entries: &[u8], count: usize, base: usize, index: &[u8], i: usiz
 // The first entry in name order, from the filled index.
 pub fn first_sorted(entries: &[u8], count: usize, base: usize, index: &[u8]) -> EntryPeriods
     requires { ⌜ Filled (now entries) count base (now index) × (1 ≤ count) ⌝ }
-    ensures { λ r. ⌜ r ≡ periodsOf (firstOf (sort (entriesFrom count (now (entries .entry)) 0 .list))) ⌝ }
+    ensures { λ r.
+        ⌜
+        (r ≡ periodsOf (firstOf (sort (entriesFrom count (now (entries .entry)) 0 .list)))) × Small r
+        ⌝ }
 {
     periods_at(entries, sorted_place(entries, count, base, index, 0))
 }

@@ -1,6 +1,5 @@
-use mathlib.Core.Path.{_≡_, refl, sym, ap, _∙_}
-use Prim.Native.Nat.{ℕ, _-_}
-use Rattle.voice.specs.Voice.{entriesFrom, entryAt, lookup, isSome}
+use mathlib.Core.Path.{refl, sym, _∙_}
+use Rattle.voice.specs.Voice.{entriesFrom}
 use Rattle.voice.specs.Opening.{distinct}
 use Rattle.index.proofs.WalkLaws.{Walk, turn, step, stop, end}
 use Rattle.index.proofs.TestLaws.{distinct-none, distinct-twice, distinct-more}
