@@ -1,2 +1,4 @@
 -- Laws about sheet's definitions.
 pub mod SheetLaws
+pub mod AnswerLaws
+pub mod NumberLaws

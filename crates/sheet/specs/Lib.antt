@@ -1,3 +1,4 @@
 -- The root of sheet's definitions.
 pub mod Sheet
 pub mod Begins
+pub mod Answers

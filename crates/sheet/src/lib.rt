@@ -1,4 +1,10 @@
-// The call sheet: segments with their ends, pitch targets.
+// The call sheet: segments with their ends, pitch targets. A reader takes the sheet and a place in
+// it, and answers what stands there and the place after it.
+ghost use mathlib.Core.Path.{_≡_};
+ghost use Prim.Native.Nat.{_^_, _≤_};
+ghost use lib.ListN.{drop};
+ghost use Rattle.sheet.specs.Sheet as sheets;
+ghost use Rattle.sheet.specs.Answers.{NumberIs};
 use base::Span;
 
 // A value of the sheet: a whole number, a float, or absent.
@@ -20,4 +26,74 @@ pub struct Segment {
 pub struct Target {
     pub pos: Value,
     pub f0: Value,
+}
+
+// A number that was read, and the place after it.
+pub enum GotNumber {
+    Malformed,
+    Read(usize, usize),
+}
+
+// The value as f32: a whole number to the nearest, ties to even; 0 where it is absent.
+pub fn as_f32(value: Value) -> f32
+    ensures { λ r. ⌜ r ≡ sheets.asF32 value ⌝ }
+{
+    match value {
+        Value::Int(i) => std::num::nearest_i32_to_f32(i),
+        Value::Float(x) => x,
+        Value::Absent => 0.0,
+    }
+}
+
+// A number of at most so many groups of seven bits, the lowest first. The last group of several is
+// not 0.
+fn groups(sheet: &[u8], at: usize, left: usize, first: bool) -> GotNumber
+    requires { ⌜ left ≤ 5 ⌝ }
+    ensures { λ r.
+        ⌜
+        NumberIs (now (sheet .entry)) (128 ^ left) r (sheets.groups left first (drop at (now (sheet .entry))))
+        ⌝ }
+{
+    if left == 0 {
+        return GotNumber::Malformed;
+    }
+    if sheet.len() <= at {
+        return GotNumber::Malformed;
+    }
+    let group = sheet[at] as usize;
+    if group < 128 {
+        if first {
+            return GotNumber::Read(group, at + 1);
+        }
+        if group == 0 {
+            return GotNumber::Malformed;
+        }
+        return GotNumber::Read(group, at + 1);
+    }
+    match groups(sheet, at + 1, left - 1, false) {
+        GotNumber::Malformed => GotNumber::Malformed,
+        GotNumber::Read(high, next) => GotNumber::Read(group - 128 + 128 * high, next),
+    }
+}
+
+// A number in groups of seven bits: at most five, in the shortest form.
+fn number(sheet: &[u8], at: usize) -> GotNumber
+    ensures { λ r. ⌜ NumberIs (now (sheet .entry)) (2 ^ 35) r (sheets.number (drop at (now (sheet .entry)))) ⌝ }
+{
+    groups(sheet, at, 5, true)
+}
+
+// How many segments, or targets, follow.
+fn count(sheet: &[u8], at: usize) -> GotNumber
+    ensures { λ r. ⌜ NumberIs (now (sheet .entry)) 4097 r (sheets.count (drop at (now (sheet .entry)))) ⌝ }
+{
+    match number(sheet, at) {
+        GotNumber::Malformed => GotNumber::Malformed,
+        GotNumber::Read(n, next) => {
+            if 4096 < n {
+                return GotNumber::Malformed;
+            }
+            GotNumber::Read(n, next)
+        }
+    }
 }

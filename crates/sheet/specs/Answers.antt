@@ -1,0 +1,40 @@
+-- What the reader answers, joined to the definition's `Got`.
+use mathlib.Core.Path.{_≡_}
+use mathlib.Core.List.{List}
+use Prim.Native.Nat.{ℕ, _≤_, _<_}
+use lib.ListN.{length, drop}
+use Rattle.refusal.specs.declared.Refusal.{Refusal}
+use Rattle.refusal.specs.declared.Refusal.the-variants.{BadSheet}
+use Rattle.sheet.specs.Sheet.{Got, fails, gets}
+use Rattle.sheet.specs.declared.GotNumber.{GotNumber}
+use Rattle.sheet.specs.declared.GotNumber.the-variants as number
+
+-- a refusal, or what was read and the place after it
+pub data Says (A : Type 0) : Type 0 where
+  refuses : Refusal → Says A
+  reads : A → ℕ → Says A
+
+-- the bytes after what was read are those of the sheet from the next place on
+abbrev pub got : {A B : Type 0} → List ℕ → (A → B) → Says A → Got B
+got sheet meaning (refuses r) = fails r
+got sheet meaning (reads a next) = gets (meaning a) (drop next sheet)
+
+-- the next place is within the sheet, and P holds of what was read
+abbrev pub Within : {A : Type 0} → List ℕ → (A → Type 0) → Says A → Type 0
+Within sheet P (refuses r) = Unit
+Within sheet P (reads a next) = (next ≤ length sheet) × P a
+
+-- an answer about a sheet is a reading of some of its bytes
+pub record Answers {A B : Type 0} (sheet : List ℕ) (meaning : A → B) (P : A → Type 0) (says : Says A) (reading : Got B) : Type 0 where
+  pub is : got sheet meaning says ≡ reading
+  pub within : Within sheet P says
+
+-- ---- the answers
+
+abbrev pub numberSays : GotNumber → Says ℕ
+numberSays number.Malformed = refuses BadSheet
+numberSays (number.Read n next) = reads n next
+
+-- a number below a bound
+abbrev pub NumberIs : List ℕ → ℕ → GotNumber → Got ℕ → Type 0
+NumberIs sheet bound r reading = Answers sheet (λ n. n) (λ n. n < bound) (numberSays r) reading
