@@ -1,25 +1,44 @@
--- Answers made and passed on.
-use mathlib.Core.Path.{_≡_, sym, ap, _∙_}
+-- Answers made, and passed on from one reading to the next.
+use mathlib.Core.Path.{_≡_, sym, ap, subst, _∙_}
+use mathlib.Core.Bool.{Bool, true, false}
 use mathlib.Core.List.{List}
 use Prim.Native.Nat.{ℕ, _≤_}
 use lib.ListN.{length, drop}
 use Rattle.refusal.specs.declared.Refusal.{Refusal}
-use Rattle.sheet.specs.Sheet.{Got, fails, gets, _andThen_}
-use Rattle.sheet.specs.Answers.{refuses, reads, Answers}
+use Rattle.refusal.specs.declared.Refusal.the-variants.{BadSheet}
+use Rattle.sheet.specs.Sheet.{Got, fails, gets, _andThen_, malformedIf}
+use Rattle.sheet.specs.Answers.{Says, refuses, reads, Answers}
 
-module _ {A B : Type 0} (sheet : List ℕ) (meaning : A → B) (P : A → Type 0) where
-  pub refused : (r : Refusal) (g : Got B) → g ≡ fails r → Answers sheet meaning P (refuses r) g
-  refused r g e = record { is = sym e; within = tt }
+module _ {A B : Type 0} {sheet : List ℕ} {meaning : A → B} {P : A → Type 0} where
+  pub refused : {r : Refusal} {g : Got B} → g ≡ fails r → Answers sheet meaning P (refuses r) g
+  refused e = record { is = sym e; within = tt }
 
-  pub read : (a : A) (next : ℕ) (g : Got B) → g ≡ gets (meaning a) (drop next sheet) → next ≤ length sheet → P a → Answers sheet meaning P (reads a next) g
-  read a next g e h p = record { is = sym e; within = (h, p) }
+  pub read : {a : A} {next : ℕ} {g : Got B} → g ≡ gets (meaning a) (drop next sheet) → next ≤ length sheet → P a → Answers sheet meaning P (reads a next) g
+  read e h p = record { is = sym e; within = (h, p) }
 
-  -- a reading goes on from an answer
-  module _ {C : Type 0} (f : B → List ℕ → Got C) where
-    pub then-refused : (r : Refusal) (g : Got B) → Answers sheet meaning P (refuses r) g → (g andThen f) ≡ fails r
-    unfolding _andThen_
-    then-refused r g h = ap (λ (x : Got B). x andThen f) (sym (h .is))
+  -- another reading that is the same
+  pub same-reading : {says : Says A} {g h : Got B} → g ≡ h → Answers sheet meaning P says h → Answers sheet meaning P says g
+  same-reading {says} e i = subst (Answers sheet meaning P says) (sym e) i
 
-    pub then-read : (a : A) (next : ℕ) (g : Got B) → Answers sheet meaning P (reads a next) g → (g andThen f) ≡ f (meaning a) (drop next sheet)
-    unfolding _andThen_
-    then-read a next g h = ap (λ (x : Got B). x andThen f) (sym (h .is))
+  -- 8 where a test passes
+  pub test-passes : {t : Bool} (g : Got B) → t ≡ true → Answers sheet meaning P (refuses BadSheet) (malformedIf t g)
+  test-passes g e = refused (ap (λ (u : Bool). malformedIf u g) e)
+
+  pub test-fails : {t : Bool} {g : Got B} {says : Says A} → t ≡ false → Answers sheet meaning P says g → Answers sheet meaning P says (malformedIf t g)
+  test-fails {g = g} e i = same-reading (ap (λ (u : Bool). malformedIf u g) e) i
+
+-- after an answer the reading goes on, or stops where it is refused
+module _ {A B C D : Type 0} {sheet : List ℕ} {meaning : A → B} {P : A → Type 0} {meaning′ : C → D} {Q : C → Type 0} {says : Says A} {g : Got B}
+    (i : Answers sheet meaning P says g) (f : B → List ℕ → Got D) where
+  pub stops : {r : Refusal} → says ≡ refuses r → Answers sheet meaning′ Q (refuses r) (g andThen f)
+  unfolding _andThen_
+  stops e = refused (ap (λ (x : Got B). x andThen f) (sym ((rw e at i) .is)))
+
+  pub goes-on : {a : A} {next : ℕ} {says′ : Says C} → says ≡ reads a next → Answers sheet meaning′ Q says′ (f (meaning a) (drop next sheet)) → Answers sheet meaning′ Q says′ (g andThen f)
+  unfolding _andThen_
+  goes-on e j = same-reading (ap (λ (x : Got B). x andThen f) (sym ((rw e at i) .is))) j
+
+-- what holds of what was read
+pub read-within : {A B : Type 0} {sheet : List ℕ} {meaning : A → B} {P : A → Type 0} {says : Says A} {g : Got B} {a : A} {next : ℕ}
+    → Answers sheet meaning P says g → says ≡ reads a next → (next ≤ length sheet) × P a
+read-within i e = (rw e at i) .within

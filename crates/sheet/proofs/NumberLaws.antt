@@ -12,10 +12,10 @@ use lib.ListN.{length, drop, getD, drop-of-length-le}
 use lib.Seq.{drop-cons}
 use Rattle.refusal.specs.declared.Refusal.the-variants.{BadSheet}
 use Rattle.sheet.specs.Sheet.{Got, fails, gets, _andThen_, malformedIf, groups}
-use Rattle.sheet.specs.Answers.{NumberIs}
+use Rattle.sheet.specs.Answers.{NumberIs, numberSays}
 use Rattle.sheet.specs.declared.GotNumber.{GotNumber}
 use Rattle.sheet.specs.declared.GotNumber.the-variants.{Malformed, Read}
-use Rattle.sheet.proofs.AnswerLaws.{refused, read, then-refused, then-read}
+use Rattle.sheet.proofs.AnswerLaws.{refused, read, same-reading, stops, goes-on, read-within}
 
 -- a step of the definition, with its test given
 abbrev turn : Bool → ℕ → Bool → ℕ → List ℕ → Got ℕ
@@ -63,7 +63,7 @@ module _ (sheet : List ℕ) (at k : ℕ) (first : Bool) where
   high m r = gets (b - 128 + 128 * m) r
 
   malformed : groups k first (drop at sheet) ≡ fails BadSheet → Is Malformed
-  malformed e = refused sheet (λ n. n) (λ n. n < 128 ^ k) BadSheet (groups k first (drop at sheet)) e
+  malformed e = refused e
 
   pub groups-none : k ≡ 0 → Is Malformed
   unfolding groups
@@ -80,7 +80,7 @@ module _ (sheet : List ℕ) (at k : ℕ) (first : Bool) where
     last l t e = by-test true (lt-ltb b 128 l) ∙ ap (λ (u : Bool). malformedIf u (gets b (drop (at + 1) sheet))) e
 
     group : b < 128 → (not first && leb b 0) ≡ false → Is (Read b (at + 1))
-    group l e = read sheet (λ n. n) (λ n. n < 128 ^ k) b (at + 1) (groups k first (drop at sheet)) (last l false e) (omega arith) (power-one k b n l)
+    group l e = read (last l false e) (omega arith) (power-one k b n l)
 
     pub groups-first : first ≡ true → b < 128 → Is (Read b (at + 1))
     groups-first e l = group l (ap (λ (t : Bool). not t && leb b 0) e)
@@ -94,19 +94,13 @@ module _ (sheet : List ℕ) (at k : ℕ) (first : Bool) where
 
     -- more groups follow
     module _ (l : 128 ≤ b) (r : GotNumber) (i : NumberIs sheet (128 ^ (k - 1)) r (groups (k - 1) false (drop (at + 1) sheet))) where
+      follows : groups k first (drop at sheet) ≡ (groups (k - 1) false (drop (at + 1) sheet) andThen high)
+      follows = by-test false (le-ltb b 128 l)
+
       pub groups-cut : r ≡ Malformed → Is Malformed
-      groups-cut e =
-          let j = rw e at i in
-          malformed (by-test false (le-ltb b 128 l) ∙ then-refused sheet (λ n. n) (λ n. n < 128 ^ (k - 1)) high BadSheet (groups (k - 1) false (drop (at + 1) sheet)) j)
+      groups-cut e = same-reading follows (stops i high (ap numberSays e))
 
       pub groups-more : (m next : ℕ) → b < 256 → r ≡ Read m next → Is (Read (b - 128 + 128 * m) next)
       groups-more m next s e =
-          let j = rw e at i in
-          read sheet (λ n. n) (λ n. n < 128 ^ k) (b - 128 + 128 * m) next (groups k first (drop at sheet))
-          (by-test false (le-ltb b 128 l) ∙ then-read sheet (λ n. n) (λ n. n < 128 ^ (k - 1)) high m next (groups (k - 1) false (drop (at + 1) sheet)) j)
-          (j .within .0)
-          (power-more k b m n s (j .within .1))
-
--- a number that was read is below its bound
-pub number-below : (sheet : List ℕ) (bound : ℕ) (r : GotNumber) (g : Got ℕ) (m next : ℕ) → NumberIs sheet bound r g → r ≡ Read m next → m < bound
-number-below sheet bound r g m next i e = (rw e at i) .within .1
+          let w = read-within i (ap numberSays e) in
+          same-reading follows (goes-on i high (ap numberSays e) (read refl (w .0) (power-more k b m n s (w .1))))

@@ -1,7 +1,10 @@
 use Prim.Native.Nat.{ℕ, _-_, _<_}
 use native.Mathlib.Omega.{arith}
 use borrow.Author.Needs.{needs}
-use Rattle.sheet.proofs.NumberLaws.{groups-none, groups-end, groups-first, groups-last, groups-zero, groups-cut, groups-more, number-below, power-small}
+use Rattle.sheet.proofs.NumberLaws.{groups-none, groups-end, groups-first, groups-last, groups-zero, groups-cut, groups-more, power-small}
+use Rattle.sheet.specs.Answers.{numberSays}
+use Rattle.sheet.proofs.AnswerLaws.{read-within}
+use mathlib.Core.Path.{ap}
 use borrow.Fn.Kinds.{In}
 use borrow.Fn.PlainCycle.{Measures, is, falls, and}
 use Rattle.sheet.proofs.groups.Reads as groups
@@ -93,7 +96,7 @@ groups-mul-t19 :
 groups-mul-t19 t c =
     let k = c .before .before .before .before .before in
     let a = k .before .before .before .before .args in
-    let m = number-below (a .sheet .now) _ _ _ _ _ (c .before .before .before .groups .ensures) (c .before .high .given .1) in
+    let m = (read-within (c .before .before .before .groups .ensures) (ap numberSays (c .before .high .given .1))) .1 in
     omega (arith, m, power-small (a .left - 1) (omega arith))
 
 groups-add-t20 :
@@ -101,7 +104,7 @@ groups-add-t20 :
 groups-add-t20 t c =
     let k = c .before .before .before .before .before in
     let a = k .before .before .before .before .args in
-    let m = number-below (a .sheet .now) _ _ _ _ _ (c .before .before .before .groups .ensures) (c .before .high .given .1) in
+    let m = (read-within (c .before .before .before .groups .ensures) (ap numberSays (c .before .high .given .1))) .1 in
     omega (arith, m, power-small (a .left - 1) (omega arith), k .shared-slice-known2 .given (a .at))
 
 groups-returns-6 :
