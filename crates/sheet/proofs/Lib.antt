@@ -2,3 +2,4 @@
 pub mod SheetLaws
 pub mod AnswerLaws
 pub mod NumberLaws
+pub mod NameLaws

@@ -1,13 +1,17 @@
 -- What the reader answers, joined to the definition's `Got`.
 use mathlib.Core.Path.{_≡_}
 use mathlib.Core.List.{List}
-use Prim.Native.Nat.{ℕ, _≤_, _<_}
+use Prim.Native.Nat.{ℕ, _+_, _≤_, _<_}
 use lib.ListN.{length, drop}
 use Rattle.refusal.specs.declared.Refusal.{Refusal}
 use Rattle.refusal.specs.declared.Refusal.the-variants.{BadSheet}
 use Rattle.sheet.specs.Sheet.{Got, fails, gets}
+use Rattle.base.specs.Lists.{part}
+use Rattle.base.specs.declared.Span.{Span}
 use Rattle.sheet.specs.declared.GotNumber.{GotNumber}
 use Rattle.sheet.specs.declared.GotNumber.the-variants as number
+use Rattle.sheet.specs.declared.GotName.{GotName}
+use Rattle.sheet.specs.declared.GotName.the-variants as name
 
 -- a refusal, or what was read and the place after it
 pub data Says (A : Type 0) : Type 0 where
@@ -38,3 +42,14 @@ numberSays (number.Read n next) = reads n next
 -- a number below a bound
 abbrev pub NumberIs : List ℕ → ℕ → GotNumber → Got ℕ → Type 0
 NumberIs sheet bound r reading = Answers sheet (λ n. n) (λ n. n < bound) (numberSays r) reading
+
+-- the bytes of a part of a sheet
+abbrev pub bytesAt : List ℕ → Span → List ℕ
+bytesAt sheet s = part sheet (s .at) (s .len)
+
+abbrev pub nameSays : GotName → Says Span
+nameSays name.Malformed = refuses BadSheet
+nameSays (name.Read s) = reads s (s .at + s .len)
+
+abbrev pub NameIs : List ℕ → GotName → Got (List ℕ) → Type 0
+NameIs sheet r reading = Answers sheet (bytesAt sheet) (λ s. Unit) (nameSays r) reading

@@ -4,7 +4,7 @@ ghost use mathlib.Core.Path.{_≡_};
 ghost use Prim.Native.Nat.{_^_, _≤_};
 ghost use lib.ListN.{drop};
 ghost use Rattle.sheet.specs.Sheet as sheets;
-ghost use Rattle.sheet.specs.Answers.{NumberIs};
+ghost use Rattle.sheet.specs.Answers.{NumberIs, NameIs};
 use base::Span;
 
 // A value of the sheet: a whole number, a float, or absent.
@@ -32,6 +32,12 @@ pub struct Target {
 pub enum GotNumber {
     Malformed,
     Read(usize, usize),
+}
+
+// Where a name stands that was read; the place after it is its end.
+pub enum GotName {
+    Malformed,
+    Read(Span),
 }
 
 // The value as f32: a whole number to the nearest, ties to even; 0 where it is absent.
@@ -94,6 +100,45 @@ fn count(sheet: &[u8], at: usize) -> GotNumber
                 return GotNumber::Malformed;
             }
             GotNumber::Read(n, next)
+        }
+    }
+}
+
+// Whether each byte is from 33 to 126.
+fn is_printable(bytes: &[u8]) -> bool
+    ensures { λ r. ⌜ r ≡ sheets.printable (now (bytes .entry)) ⌝ }
+{
+    let mut i = 0;
+    while i < bytes.len() {
+        if bytes[i] < 33 {
+            return false;
+        }
+        if 126 < bytes[i] {
+            return false;
+        }
+        i += 1;
+    }
+    true
+}
+
+// A name of 0 to 32 bytes, after its length.
+fn name(sheet: &[u8], at: usize) -> GotName
+    ensures { λ r. ⌜ NameIs (now (sheet .entry)) r (sheets.name (drop at (now (sheet .entry)))) ⌝ }
+{
+    match number(sheet, at) {
+        GotNumber::Malformed => GotName::Malformed,
+        GotNumber::Read(len, from) => {
+            if 32 < len {
+                return GotName::Malformed;
+            }
+            let end = from + len;
+            if sheet.len() < end {
+                return GotName::Malformed;
+            }
+            if is_printable(&sheet[from..end]) {
+                return GotName::Read(Span { at: from, len: len });
+            }
+            GotName::Malformed
         }
     }
 }
