@@ -1,13 +1,19 @@
 -- Answers made, and passed on from one reading to the next.
 use mathlib.Core.Path.{_≡_, sym, ap, subst, _∙_}
 use mathlib.Core.Bool.{Bool, true, false}
-use mathlib.Core.List.{List}
-use Prim.Native.Nat.{ℕ, _≤_}
-use lib.ListN.{length, drop}
+use mathlib.Core.List.{List, _∷_}
+use Prim.Native.Nat.{ℕ, _+_, _≤_, _<_}
+use native.Mathlib.Numerals.{add-one}
+use lib.ListN.{length, drop, getD}
+use lib.Seq.{drop-cons}
 use Rattle.refusal.specs.declared.Refusal.{Refusal}
 use Rattle.refusal.specs.declared.Refusal.the-variants.{BadSheet}
 use Rattle.sheet.specs.Sheet.{Got, fails, gets, _andThen_, malformedIf}
 use Rattle.sheet.specs.Answers.{Says, refuses, reads, Answers}
+
+-- the bytes from a place on
+pub from-place : (s : List ℕ) (at : ℕ) → at < length s → drop at s ≡ getD s at 0 ∷ drop (at + 1) s
+from-place s at h = rw (add-one at) (drop-cons s at 0 h)
 
 module _ {A B : Type 0} {sheet : List ℕ} {meaning : A → B} {P : A → Type 0} where
   pub refused : {r : Refusal} {g : Got B} → g ≡ fails r → Answers sheet meaning P (refuses r) g
@@ -19,6 +25,9 @@ module _ {A B : Type 0} {sheet : List ℕ} {meaning : A → B} {P : A → Type 0
   -- another reading that is the same
   pub same-reading : {says : Says A} {g h : Got B} → g ≡ h → Answers sheet meaning P says h → Answers sheet meaning P says g
   same-reading {says} e i = subst (Answers sheet meaning P says) (sym e) i
+
+  pub same-says : {says says′ : Says A} {g : Got B} → says′ ≡ says → Answers sheet meaning P says g → Answers sheet meaning P says′ g
+  same-says {g = g} e i = subst (λ (x : Says A). Answers sheet meaning P x g) (sym e) i
 
   -- 8 where a test passes
   pub test-passes : {t : Bool} (g : Got B) → t ≡ true → Answers sheet meaning P (refuses BadSheet) (malformedIf t g)

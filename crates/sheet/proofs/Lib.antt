@@ -3,3 +3,4 @@ pub mod SheetLaws
 pub mod AnswerLaws
 pub mod NumberLaws
 pub mod NameLaws
+pub mod ValueLaws

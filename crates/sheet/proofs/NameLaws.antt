@@ -4,17 +4,16 @@ use mathlib.Core.Bool.{Bool, true, false, _&&_, _||_, not}
 use mathlib.Core.List.{List, [], _∷_}
 use Prim.Native.Nat.{ℕ, _+_, _-_, _≤_, _<_}
 use native.Mathlib.Nat.{add-sub-cancel-left}
-use native.Mathlib.Numerals.{add-one}
 use native.Mathlib.Omega.{arith}
 use borrow.Author.Tests.{lt-leb, le-leb, lt-ltb, le-ltb}
 use lib.Dec.{leb, ltb}
 use lib.ListN.{length, take, drop, getD, length-drop, drop-of-length-le}
-use lib.Seq.{drop-cons, drop-drop}
+use lib.Seq.{drop-drop}
 use Rattle.sheet.specs.Sheet.{Got, gets, malformedIf, _andThen_, number, printable, name}
 use Rattle.sheet.specs.Answers.{NameIs}
 use Rattle.sheet.specs.declared.GotName.{GotName}
 use Rattle.sheet.specs.declared.GotName.the-variants.{Malformed, Read}
-use Rattle.sheet.proofs.AnswerLaws.{read, test-passes, test-fails}
+use Rattle.sheet.proofs.AnswerLaws.{from-place, read, test-passes, test-fails}
 
 module _ (bytes : List ℕ) (i : ℕ) where
   abbrev b : ℕ
@@ -22,7 +21,7 @@ module _ (bytes : List ℕ) (i : ℕ) where
 
   one-more : i < length bytes → printable (drop i bytes) ≡ ((leb 33 b && leb b 126) && printable (drop (i + 1) bytes))
   unfolding printable
-  one-more h = rw (drop-cons bytes i 0 h, add-one i)
+  one-more h = rw (from-place bytes i h)
 
   pub printable-low : i < length bytes → b < 33 → printable (drop i bytes) ≡ false
   printable-low h l = let t = lt-leb 33 b l in one-more h ∙ rw t

@@ -4,18 +4,16 @@ use mathlib.Core.Bool.{Bool, true, false, _&&_, not}
 use mathlib.Core.List.{List, [], _∷_}
 use Prim.Native.Nat.{ℕ, zero, suc, _+_, _-_, _*_, _^_, _≤_, _<_}
 use native.Mathlib.Nat.{pow-suc, pow-le-pow-right}
-use native.Mathlib.Numerals.{add-one}
 use native.Mathlib.Omega.{arith}
 use borrow.Author.Tests.{lt-ltb, le-ltb, le-leb, lt-leb}
 use lib.Dec.{ltb, leb}
 use lib.ListN.{length, drop, getD, drop-of-length-le}
-use lib.Seq.{drop-cons}
 use Rattle.refusal.specs.declared.Refusal.the-variants.{BadSheet}
 use Rattle.sheet.specs.Sheet.{Got, fails, gets, _andThen_, malformedIf, groups}
 use Rattle.sheet.specs.Answers.{NumberIs, numberSays}
 use Rattle.sheet.specs.declared.GotNumber.{GotNumber}
 use Rattle.sheet.specs.declared.GotNumber.the-variants.{Malformed, Read}
-use Rattle.sheet.proofs.AnswerLaws.{refused, read, same-reading, stops, goes-on, read-within}
+use Rattle.sheet.proofs.AnswerLaws.{from-place, refused, read, same-reading, stops, goes-on, read-within}
 
 -- a step of the definition, with its test given
 abbrev turn : Bool → ℕ → Bool → ℕ → List ℕ → Got ℕ
@@ -74,7 +72,7 @@ module _ (sheet : List ℕ) (at k : ℕ) (first : Bool) where
 
   module _ (n : k ≡ 0 → ⊥) (h : at < length sheet) where
     by-test : (t : Bool) → ltb b 128 ≡ t → groups k first (drop at sheet) ≡ turn t (k - 1) first b (drop (at + 1) sheet)
-    by-test t e = ap (groups k first) (drop-cons sheet at 0 h ∙ rw add-one) ∙ one-more k first b (drop (at + 1) sheet) n ∙ ap (λ (u : Bool). turn u (k - 1) first b (drop (at + 1) sheet)) e
+    by-test t e = ap (groups k first) (from-place sheet at h) ∙ one-more k first b (drop (at + 1) sheet) n ∙ ap (λ (u : Bool). turn u (k - 1) first b (drop (at + 1) sheet)) e
 
     last : b < 128 → (t : Bool) → (not first && leb b 0) ≡ t → groups k first (drop at sheet) ≡ malformedIf t (gets b (drop (at + 1) sheet))
     last l t e = by-test true (lt-ltb b 128 l) ∙ ap (λ (u : Bool). malformedIf u (gets b (drop (at + 1) sheet))) e

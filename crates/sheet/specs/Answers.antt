@@ -4,14 +4,20 @@ use mathlib.Core.List.{List}
 use Prim.Native.Nat.{ℕ, _+_, _≤_, _<_}
 use lib.ListN.{length, drop}
 use Rattle.refusal.specs.declared.Refusal.{Refusal}
-use Rattle.refusal.specs.declared.Refusal.the-variants.{BadSheet}
-use Rattle.sheet.specs.Sheet.{Got, fails, gets}
+use Rattle.refusal.specs.declared.Refusal.the-variants.{BadSheet, NotFinite}
+use Rattle.sheet.specs.Sheet.{Got, fails, gets, isFinite}
+use lib.Ieee.{binary32, ofBits}
+use Rattle.base.specs.Choice.{pick}
 use Rattle.base.specs.Lists.{part}
 use Rattle.base.specs.declared.Span.{Span}
 use Rattle.sheet.specs.declared.GotNumber.{GotNumber}
 use Rattle.sheet.specs.declared.GotNumber.the-variants as number
 use Rattle.sheet.specs.declared.GotName.{GotName}
 use Rattle.sheet.specs.declared.GotName.the-variants as name
+use Rattle.sheet.specs.declared.GotValue.{GotValue}
+use Rattle.sheet.specs.declared.GotValue.the-variants as value
+use Rattle.sheet.specs.declared.Value.{Value}
+use Rattle.sheet.specs.declared.Value.the-variants.{Float as FloatValue}
 
 -- a refusal, or what was read and the place after it
 pub data Says (A : Type 0) : Type 0 where
@@ -53,3 +59,15 @@ nameSays (name.Read s) = reads s (s .at + s .len)
 
 abbrev pub NameIs : List ℕ → GotName → Got (List ℕ) → Type 0
 NameIs sheet r reading = Answers sheet (bytesAt sheet) (λ s. Unit) (nameSays r) reading
+
+abbrev pub valueSays : GotValue → Says Value
+valueSays value.Malformed = refuses BadSheet
+valueSays value.NotFinite = refuses NotFinite
+valueSays (value.Read v next) = reads v next
+
+abbrev pub ValueIs : List ℕ → GotValue → Got Value → Type 0
+ValueIs sheet r reading = Answers sheet (λ v. v) (λ v. Unit) (valueSays r) reading
+
+-- what is answered of a float's bits
+abbrev pub floatRead : ℕ → ℕ → GotValue
+floatRead word next = pick (isFinite (ofBits binary32 word)) (value.Read (FloatValue (ofBits binary32 word)) next) value.NotFinite

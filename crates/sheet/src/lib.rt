@@ -4,7 +4,7 @@ ghost use mathlib.Core.Path.{_≡_};
 ghost use Prim.Native.Nat.{_^_, _≤_};
 ghost use lib.ListN.{drop};
 ghost use Rattle.sheet.specs.Sheet as sheets;
-ghost use Rattle.sheet.specs.Answers.{NumberIs, NameIs};
+ghost use Rattle.sheet.specs.Answers.{NumberIs, NameIs, ValueIs, floatRead};
 use base::Span;
 
 // A value of the sheet: a whole number, a float, or absent.
@@ -40,6 +40,13 @@ pub enum GotName {
     Read(Span),
 }
 
+// A value that was read, and the place after it.
+pub enum GotValue {
+    Malformed,
+    NotFinite,
+    Read(Value, usize),
+}
+
 // The value as f32: a whole number to the nearest, ties to even; 0 where it is absent.
 pub fn as_f32(value: Value) -> f32
     ensures { λ r. ⌜ r ≡ sheets.asF32 value ⌝ }
@@ -53,7 +60,7 @@ pub fn as_f32(value: Value) -> f32
 
 // A number of at most so many groups of seven bits, the lowest first. The last group of several is
 // not 0.
-fn groups(sheet: &[u8], at: usize, left: usize, first: bool) -> GotNumber
+fn read_groups(sheet: &[u8], at: usize, left: usize, first: bool) -> GotNumber
     requires { ⌜ left ≤ 5 ⌝ }
     ensures { λ r.
         ⌜
@@ -76,24 +83,24 @@ fn groups(sheet: &[u8], at: usize, left: usize, first: bool) -> GotNumber
         }
         return GotNumber::Read(group, at + 1);
     }
-    match groups(sheet, at + 1, left - 1, false) {
+    match read_groups(sheet, at + 1, left - 1, false) {
         GotNumber::Malformed => GotNumber::Malformed,
         GotNumber::Read(high, next) => GotNumber::Read(group - 128 + 128 * high, next),
     }
 }
 
 // A number in groups of seven bits: at most five, in the shortest form.
-fn number(sheet: &[u8], at: usize) -> GotNumber
+fn read_number(sheet: &[u8], at: usize) -> GotNumber
     ensures { λ r. ⌜ NumberIs (now (sheet .entry)) (2 ^ 35) r (sheets.number (drop at (now (sheet .entry)))) ⌝ }
 {
-    groups(sheet, at, 5, true)
+    read_groups(sheet, at, 5, true)
 }
 
 // How many segments, or targets, follow.
-fn count(sheet: &[u8], at: usize) -> GotNumber
+fn read_count(sheet: &[u8], at: usize) -> GotNumber
     ensures { λ r. ⌜ NumberIs (now (sheet .entry)) 4097 r (sheets.count (drop at (now (sheet .entry)))) ⌝ }
 {
-    match number(sheet, at) {
+    match read_number(sheet, at) {
         GotNumber::Malformed => GotNumber::Malformed,
         GotNumber::Read(n, next) => {
             if 4096 < n {
@@ -122,10 +129,10 @@ fn is_printable(bytes: &[u8]) -> bool
 }
 
 // A name of 0 to 32 bytes, after its length.
-fn name(sheet: &[u8], at: usize) -> GotName
+fn read_name(sheet: &[u8], at: usize) -> GotName
     ensures { λ r. ⌜ NameIs (now (sheet .entry)) r (sheets.name (drop at (now (sheet .entry)))) ⌝ }
 {
-    match number(sheet, at) {
+    match read_number(sheet, at) {
         GotNumber::Malformed => GotName::Malformed,
         GotNumber::Read(len, from) => {
             if 32 < len {
@@ -141,4 +148,40 @@ fn name(sheet: &[u8], at: usize) -> GotName
             GotName::Malformed
         }
     }
+}
+
+// A float by its bits, with the place after them.
+fn float_value(word: u32, next: usize) -> GotValue
+    ensures { λ r. ⌜ r ≡ floatRead word next ⌝ }
+{
+    // the exponent is not that of the infinities and NaNs
+    if word % 0x8000_0000 < 0x7F80_0000 {
+        return GotValue::Read(Value::Float(float::f32_from_word(word)), next);
+    }
+    GotValue::NotFinite
+}
+
+// A value: kind 0 and an i32, 1 and the bits of an f32, or 2 alone.
+fn read_value(sheet: &[u8], at: usize) -> GotValue
+    ensures { λ r. ⌜ ValueIs (now (sheet .entry)) r (sheets.value (drop at (now (sheet .entry)))) ⌝ }
+{
+    if sheet.len() <= at {
+        return GotValue::Malformed;
+    }
+    let kind = sheet[at];
+    let from = at + 1;
+    if kind == 2 {
+        return GotValue::Read(Value::Absent, from);
+    }
+    if 2 < kind {
+        return GotValue::Malformed;
+    }
+    if sheet.len() - from < 4 {
+        return GotValue::Malformed;
+    }
+    let word = base::bytes::read_u32(sheet, from);
+    if kind == 0 {
+        return GotValue::Read(Value::Int(base::words::word_to_i32(word)), from + 4);
+    }
+    float_value(word, from + 4)
 }

@@ -9,8 +9,8 @@ use Rattle.base.specs.declared.Span.{Span}
 use Rattle.sheet.proofs.AnswerLaws.{same-reading, stops, goes-on, read-within}
 use Rattle.sheet.proofs.NameLaws.{named, name-named, name-long, name-cut, name-bad, name-good}
 use borrow.Author.Needs.{needs}
-use Rattle.sheet.proofs.name.Statement.{statement}
-use Rattle.sheet.proofs.name.Tie as tie
+use Rattle.sheet.proofs.read_name.Statement.{statement}
+use Rattle.sheet.proofs.read_name.Tie as tie
 
 abbrev sheet : (k : tie.After-known-told) → List ℕ
 sheet k = k .before .before .before .before .before .args .sheet .now
@@ -22,18 +22,18 @@ abbrev from : (k : tie.After-known-told) → ℕ
 from k = k .before .len .given .0 .1 .0
 
 -- after the length
-told : (k : tie.After-known-told) → numberSays (k .before .before .before .number .result) ≡ reads (len k) (from k)
+told : (k : tie.After-known-told) → numberSays (k .before .before .before .read-number .result) ≡ reads (len k) (from k)
 told k = ap numberSays (k .before .len .given .1)
 
 inside : (k : tie.After-known-told) → from k ≤ length (sheet k)
-inside k = read-within (k .before .before .before .number .ensures) (told k) .0
+inside k = read-within (k .before .before .before .read-number .ensures) (told k) .0
 
 after : (k : tie.After-known-told) {says : Says Span}
     → Answers (sheet k) (bytesAt (sheet k)) (λ s. Unit) says (named (len k) (drop (from k) (sheet k)))
     → Answers (sheet k) (bytesAt (sheet k)) (λ s. Unit) says (name (drop (k .before .before .before .before .before .args .at) (sheet k)))
-after k i = same-reading (name-named _) (goes-on (k .before .before .before .number .ensures) named (told k) i)
+after k i = same-reading (name-named _) (goes-on (k .before .before .before .read-number .ensures) named (told k) i)
 
-number-requires : tie.Need-number-requires
+number-requires : tie.Need-read-number-requires
 number-requires c κs = search needs
 
 enum-told : tie.Need-enum-told
@@ -69,15 +69,15 @@ returns-3 c =
     after k (name-good (sheet k) (from k) (len k) (omega arith) (omega arith) (sym (c .before .is-printable .ensures) ∙ c .if3 .taken))
 
 returns-4 : tie.Need-returns-4
-returns-4 c = same-reading (name-named _) (stops (c .before .before .number .ensures) named (ap numberSays (c .enum-told .given .1)))
+returns-4 c = same-reading (name-named _) (stops (c .before .before .read-number .ensures) named (ap numberSays (c .enum-told .given .1)))
 
 returns-5 : tie.Need-returns-5
 returns-5 c =
     let k = c .before .before .before .before .before in
     after k (name-bad (sheet k) (from k) (len k) (omega arith) (omega arith) (sym (c .before .is-printable .ensures) ∙ c .if3 .left))
 
-pub name-spec : {M : Type 1} → statement M
-name-spec =
+pub read-name-spec : {M : Type 1} → statement M
+read-name-spec =
     tie.close
     (tie.spec
     number-requires

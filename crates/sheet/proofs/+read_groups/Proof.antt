@@ -7,11 +7,11 @@ use Rattle.sheet.proofs.AnswerLaws.{read-within}
 use mathlib.Core.Path.{ap}
 use borrow.Fn.Kinds.{In}
 use borrow.Fn.PlainCycle.{Measures, is, falls, and}
-use Rattle.sheet.proofs.groups.Reads as groups
-use Rattle.sheet.proofs.groups.Kinds as groups-kinds
-use Rattle.sheet.proofs.+groups.Lts-groups as groups-lts
-use Rattle.sheet.proofs.+groups.{statement}
-use Rattle.sheet.proofs.+groups.Tie.{close}
+use Rattle.sheet.proofs.read_groups.Reads as groups
+use Rattle.sheet.proofs.read_groups.Kinds as groups-kinds
+use Rattle.sheet.proofs.+read_groups.Lts-read_groups as groups-lts
+use Rattle.sheet.proofs.+read_groups.{statement}
+use Rattle.sheet.proofs.+read_groups.Tie.{close}
 
 abbrev μ-groups : Measures 1 groups-kinds.ps ℕ
 μ-groups κs a = a .1 .1 .0
@@ -70,16 +70,16 @@ groups-returns-5 t c =
     groups-last (a .sheet .now) (a .at) (a .left) (a .first) (k .before .before .if1 .left) (omega arith) (c .before .if4 .left) (c .if5 .left) (c .before .before .if3 .taken)
 
 groups-add-groups :
-    (t : ℕ) → groups-lts.Need-add-groups (groups-below t, groups.Post) (groups-at t) groups.Post
+    (t : ℕ) → groups-lts.Need-add-read-groups (groups-below t, groups.Post) (groups-at t) groups.Post
 groups-add-groups t c = search needs
 
 groups-sub-groups :
-    (t : ℕ) → groups-lts.Need-sub-groups (groups-below t, groups.Post) (groups-at t) groups.Post
+    (t : ℕ) → groups-lts.Need-sub-read-groups (groups-below t, groups.Post) (groups-at t) groups.Post
 groups-sub-groups t c = search needs
 
 groups-groups-requires :
     (t : ℕ) →
-    groups-lts.Need-groups-requires (groups-below t, groups.Post) (groups-at t) groups.Post
+    groups-lts.Need-read-groups-requires (groups-below t, groups.Post) (groups-at t) groups.Post
 groups-groups-requires t c κs = (omega arith, omega arith)
 
 groups-enum-told :
@@ -96,7 +96,7 @@ groups-mul-t19 :
 groups-mul-t19 t c =
     let k = c .before .before .before .before .before in
     let a = k .before .before .before .before .args in
-    let m = (read-within (c .before .before .before .groups .ensures) (ap numberSays (c .before .high .given .1))) .1 in
+    let m = (read-within (c .before .before .before .read-groups .ensures) (ap numberSays (c .before .high .given .1))) .1 in
     omega (arith, m, power-small (a .left - 1) (omega arith))
 
 groups-add-t20 :
@@ -104,7 +104,7 @@ groups-add-t20 :
 groups-add-t20 t c =
     let k = c .before .before .before .before .before in
     let a = k .before .before .before .before .args in
-    let m = (read-within (c .before .before .before .groups .ensures) (ap numberSays (c .before .high .given .1))) .1 in
+    let m = (read-within (c .before .before .before .read-groups .ensures) (ap numberSays (c .before .high .given .1))) .1 in
     omega (arith, m, power-small (a .left - 1) (omega arith), k .shared-slice-known2 .given (a .at))
 
 groups-returns-6 :
@@ -112,7 +112,7 @@ groups-returns-6 :
 groups-returns-6 t c =
     let k = c .before .before .before .before in
     let a = k .before .before .before .before .args in
-    groups-cut (a .sheet .now) (a .at) (a .left) (a .first) (k .before .before .if1 .left) (omega arith) (c .before .before .before .if3 .left) _ (c .before .before .groups .ensures) (c .enum-told .given .1)
+    groups-cut (a .sheet .now) (a .at) (a .left) (a .first) (k .before .before .if1 .left) (omega arith) (c .before .before .before .if3 .left) _ (c .before .before .read-groups .ensures) (c .enum-told .given .1)
 
 groups-returns-7 :
     (t : ℕ) → groups-lts.Need-returns-7 (groups-below t, groups.Post) (groups-at t) groups.Post
@@ -120,10 +120,10 @@ groups-returns-7 t c =
     let k = c .before .before .before .before .before in
     let a = k .before .before .before .before .args in
     let s = k .shared-slice-known2 .given (a .at) in
-    groups-more (a .sheet .now) (a .at) (a .left) (a .first) (k .before .before .if1 .left) (omega arith) (c .before .before .before .before .if3 .left) _ (c .before .before .before .groups .ensures) _ _ (omega (arith, s)) (c .before .high .given .1)
+    groups-more (a .sheet .now) (a .at) (a .left) (a .first) (k .before .before .if1 .left) (omega arith) (c .before .before .before .before .if3 .left) _ (c .before .before .before .read-groups .ensures) _ _ (omega (arith, s)) (c .before .high .given .1)
 
-pub +groups-spec : {M : Type 1} → statement M
-+groups-spec =
+pub +read-groups-spec : {M : Type 1} → statement M
++read-groups-spec =
     close
     μ-groups
     λ t. groups-lts.spec
