@@ -5,7 +5,9 @@ use Prim.Native.Nat.{ℕ, _+_, _≤_, _<_}
 use lib.ListN.{length, drop}
 use Rattle.refusal.specs.declared.Refusal.{Refusal}
 use Rattle.refusal.specs.declared.Refusal.the-variants.{BadSheet, NotFinite}
-use Rattle.sheet.specs.Sheet.{Got, fails, gets, isFinite}
+use Rattle.sheet.specs.Sheet.{SegmentRead, Got, fails, gets, _andThen_, malformedIf, isFinite}
+use Rattle.sheet.specs.Sheet as sheets
+use lib.Dec.{ltb}
 use lib.Ieee.{binary32, ofBits}
 use Rattle.base.specs.Choice.{pick}
 use Rattle.base.specs.Lists.{part}
@@ -16,6 +18,12 @@ use Rattle.sheet.specs.declared.GotName.{GotName}
 use Rattle.sheet.specs.declared.GotName.the-variants as name
 use Rattle.sheet.specs.declared.GotValue.{GotValue}
 use Rattle.sheet.specs.declared.GotValue.the-variants as value
+use Rattle.sheet.specs.declared.GotSegment.{GotSegment}
+use Rattle.sheet.specs.declared.GotSegment.the-variants as segment
+use Rattle.sheet.specs.declared.GotTarget.{GotTarget}
+use Rattle.sheet.specs.declared.GotTarget.the-variants as target
+use Rattle.sheet.specs.declared.Segment.{Segment}
+use Rattle.sheet.specs.declared.Target.{Target}
 use Rattle.sheet.specs.declared.Value.{Value}
 use Rattle.sheet.specs.declared.Value.the-variants.{Float as FloatValue}
 
@@ -71,3 +79,32 @@ ValueIs sheet r reading = Answers sheet (λ v. v) (λ v. Unit) (valueSays r) rea
 -- what is answered of a float's bits
 abbrev pub floatRead : ℕ → ℕ → GotValue
 floatRead word next = pick (isFinite (ofBits binary32 word)) (value.Read (FloatValue (ofBits binary32 word)) next) value.NotFinite
+
+-- a segment's name is where it stands
+abbrev pub segmentRead : List ℕ → Segment → SegmentRead
+segmentRead sheet s = record { name = bytesAt sheet (s .name); end = s .end; follower = s .follower }
+
+abbrev pub segmentSays : GotSegment → Says Segment
+segmentSays segment.Malformed = refuses BadSheet
+segmentSays segment.NotFinite = refuses NotFinite
+segmentSays (segment.Read s next) = reads s next
+
+-- its name is within the sheet, and its follower at most the count
+abbrev pub SegmentIs : List ℕ → ℕ → GotSegment → Got SegmentRead → Type 0
+SegmentIs sheet count r reading =
+    Answers sheet (segmentRead sheet) (λ s. (s .name .at + s .name .len ≤ length sheet) × (s .follower ≤ count)) (segmentSays r) reading
+
+-- the rest of a segment, after its name
+abbrev pub segmentAfter : ℕ → List ℕ → List ℕ → Got SegmentRead
+segmentAfter count nm bs =
+    sheets.value bs andThen λ end r.
+    sheets.number r andThen λ follower r₁.
+    malformedIf (ltb count follower) (gets (record { name = nm; end = end; follower = follower }) r₁)
+
+abbrev pub targetSays : GotTarget → Says Target
+targetSays target.Malformed = refuses BadSheet
+targetSays target.NotFinite = refuses NotFinite
+targetSays (target.Read t next) = reads t next
+
+abbrev pub TargetIs : List ℕ → GotTarget → Got Target → Type 0
+TargetIs sheet r reading = Answers sheet (λ t. t) (λ t. Unit) (targetSays r) reading

@@ -1,10 +1,10 @@
 // The call sheet: segments with their ends, pitch targets. A reader takes the sheet and a place in
 // it, and answers what stands there and the place after it.
 ghost use mathlib.Core.Path.{_≡_};
-ghost use Prim.Native.Nat.{_^_, _≤_};
-ghost use lib.ListN.{drop};
+ghost use Prim.Native.Nat.{_+_, _^_, _≤_};
+ghost use lib.ListN.{length, drop};
 ghost use Rattle.sheet.specs.Sheet as sheets;
-ghost use Rattle.sheet.specs.Answers.{NumberIs, NameIs, ValueIs, floatRead};
+ghost use Rattle.sheet.specs.Answers.{NumberIs, NameIs, ValueIs, SegmentIs, TargetIs, bytesAt, floatRead, segmentAfter};
 use base::Span;
 
 // A value of the sheet: a whole number, a float, or absent.
@@ -45,6 +45,20 @@ pub enum GotValue {
     Malformed,
     NotFinite,
     Read(Value, usize),
+}
+
+// A segment that was read, and the place after it.
+pub enum GotSegment {
+    Malformed,
+    NotFinite,
+    Read(Segment, usize),
+}
+
+// A target that was read, and the place after it.
+pub enum GotTarget {
+    Malformed,
+    NotFinite,
+    Read(Target, usize),
 }
 
 // The value as f32: a whole number to the nearest, ties to even; 0 where it is absent.
@@ -184,4 +198,64 @@ fn read_value(sheet: &[u8], at: usize) -> GotValue
         return GotValue::Read(Value::Int(base::words::word_to_i32(word)), from + 4);
     }
     float_value(word, from + 4)
+}
+
+// The rest of a segment, after its name.
+fn read_after_name(sheet: &[u8], name: Span, count: usize) -> GotSegment
+    requires { ⌜ name .at + name .len ≤ length (now sheet) ⌝ }
+    ensures { λ r.
+        ⌜
+        SegmentIs (now (sheet .entry)) count r
+        (segmentAfter count (bytesAt (now (sheet .entry)) name) (drop (name .at + name .len) (now (sheet .entry))))
+        ⌝ }
+{
+    let at = name.at + name.len;
+    match read_value(sheet, at) {
+        GotValue::Malformed => GotSegment::Malformed,
+        GotValue::NotFinite => GotSegment::NotFinite,
+        GotValue::Read(end, place) => match read_number(sheet, place) {
+            GotNumber::Malformed => GotSegment::Malformed,
+            GotNumber::Read(follower, next) => {
+                if count < follower {
+                    return GotSegment::Malformed;
+                }
+                GotSegment::Read(
+                    Segment {
+                        name: name,
+                        end: end,
+                        follower: follower,
+                    },
+                    next,
+                )
+            }
+        },
+    }
+}
+
+// A segment of a sheet with so many segments.
+pub fn read_segment(sheet: &[u8], at: usize, count: usize) -> GotSegment
+    ensures { λ r.
+        ⌜
+        SegmentIs (now (sheet .entry)) count r (sheets.segment count (drop at (now (sheet .entry))))
+        ⌝ }
+{
+    match read_name(sheet, at) {
+        GotName::Malformed => GotSegment::Malformed,
+        GotName::Read(name) => read_after_name(sheet, name, count),
+    }
+}
+
+// A target.
+pub fn read_target(sheet: &[u8], at: usize) -> GotTarget
+    ensures { λ r. ⌜ TargetIs (now (sheet .entry)) r (sheets.target (drop at (now (sheet .entry)))) ⌝ }
+{
+    match read_value(sheet, at) {
+        GotValue::Malformed => GotTarget::Malformed,
+        GotValue::NotFinite => GotTarget::NotFinite,
+        GotValue::Read(pos, place) => match read_value(sheet, place) {
+            GotValue::Malformed => GotTarget::Malformed,
+            GotValue::NotFinite => GotTarget::NotFinite,
+            GotValue::Read(f0, next) => GotTarget::Read(Target { pos: pos, f0: f0 }, next),
+        },
+    }
 }
