@@ -4,3 +4,4 @@ pub mod AnswerLaws
 pub mod NumberLaws
 pub mod NameLaws
 pub mod ValueLaws
+pub mod RowLaws

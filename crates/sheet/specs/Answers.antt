@@ -22,6 +22,8 @@ use Rattle.sheet.specs.declared.GotSegment.{GotSegment}
 use Rattle.sheet.specs.declared.GotSegment.the-variants as segment
 use Rattle.sheet.specs.declared.GotTarget.{GotTarget}
 use Rattle.sheet.specs.declared.GotTarget.the-variants as target
+use Rattle.sheet.specs.declared.Skipped.{Skipped}
+use Rattle.sheet.specs.declared.Skipped.the-variants.{Refused, To}
 use Rattle.sheet.specs.declared.Segment.{Segment}
 use Rattle.sheet.specs.declared.Target.{Target}
 use Rattle.sheet.specs.declared.Value.{Value}
@@ -108,3 +110,15 @@ targetSays (target.Read t next) = reads t next
 
 abbrev pub TargetIs : List ℕ → GotTarget → Got Target → Type 0
 TargetIs sheet r reading = Answers sheet (λ t. t) (λ t. Unit) (targetSays r) reading
+
+-- where a reading ends, whatever it read
+abbrev pub ended : {A : Type 0} → Got A → Got Unit
+ended (fails r) = fails r
+ended (gets x bs) = gets tt bs
+
+abbrev pub skippedSays : Skipped → Says Unit
+skippedSays (Refused r) = refuses r
+skippedSays (To next) = reads tt next
+
+abbrev pub SkippedIs : List ℕ → Skipped → Got Unit → Type 0
+SkippedIs sheet r reading = Answers sheet (λ u. u) (λ u. Unit) (skippedSays r) reading

@@ -4,8 +4,9 @@ ghost use mathlib.Core.Path.{_≡_};
 ghost use Prim.Native.Nat.{_+_, _^_, _≤_};
 ghost use lib.ListN.{length, drop};
 ghost use Rattle.sheet.specs.Sheet as sheets;
-ghost use Rattle.sheet.specs.Answers.{NumberIs, NameIs, ValueIs, SegmentIs, TargetIs, bytesAt, floatRead, segmentAfter};
+ghost use Rattle.sheet.specs.Answers.{NumberIs, NameIs, ValueIs, SegmentIs, TargetIs, SkippedIs, bytesAt, ended, floatRead, segmentAfter};
 use base::Span;
+use refusal::Refusal;
 
 // A value of the sheet: a whole number, a float, or absent.
 pub enum Value {
@@ -59,6 +60,12 @@ pub enum GotTarget {
     Malformed,
     NotFinite,
     Read(Target, usize),
+}
+
+// The place after some segments, or targets, in a row; or why they are refused.
+pub enum Skipped {
+    Refused(Refusal),
+    To(usize),
 }
 
 // The value as f32: a whole number to the nearest, ties to even; 0 where it is absent.
@@ -258,4 +265,45 @@ pub fn read_target(sheet: &[u8], at: usize) -> GotTarget
             GotValue::Read(f0, next) => GotTarget::Read(Target { pos: pos, f0: f0 }, next),
         },
     }
+}
+
+// As many segments as the sheet has, from a place on.
+fn skip_segments(sheet: &[u8], at: usize, count: usize) -> Skipped
+    requires { ⌜ at ≤ length (now sheet) ⌝ }
+    ensures { λ r.
+        ⌜
+        SkippedIs (now (sheet .entry)) r
+        (ended (sheets.repeated (sheets.segment count) count (drop at (now (sheet .entry)))))
+        ⌝ }
+{
+    let mut place = at;
+    let mut left = count;
+    while 0 < left {
+        match read_segment(sheet, place, count) {
+            GotSegment::Malformed => return Skipped::Refused(Refusal::BadSheet),
+            GotSegment::NotFinite => return Skipped::Refused(Refusal::NotFinite),
+            GotSegment::Read(_, next) => place = next,
+        }
+        left -= 1;
+    }
+    Skipped::To(place)
+}
+
+// So many targets, from a place on.
+fn skip_targets(sheet: &[u8], at: usize, count: usize) -> Skipped
+    requires { ⌜ at ≤ length (now sheet) ⌝ }
+    ensures { λ r.
+        ⌜ SkippedIs (now (sheet .entry)) r (ended (sheets.repeated sheets.target count (drop at (now (sheet .entry))))) ⌝ }
+{
+    let mut place = at;
+    let mut left = count;
+    while 0 < left {
+        match read_target(sheet, place) {
+            GotTarget::Malformed => return Skipped::Refused(Refusal::BadSheet),
+            GotTarget::NotFinite => return Skipped::Refused(Refusal::NotFinite),
+            GotTarget::Read(_, next) => place = next,
+        }
+        left -= 1;
+    }
+    Skipped::To(place)
 }
