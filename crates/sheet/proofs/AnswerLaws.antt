@@ -37,15 +37,21 @@ module _ {A B : Type 0} {sheet : List ℕ} {meaning : A → B} {P : A → Type 0
   test-fails {g = g} e i = same-reading (ap (λ (u : Bool). malformedIf u g) e) i
 
 -- after an answer the reading goes on, or stops where it is refused
-module _ {A B C D : Type 0} {sheet : List ℕ} {meaning : A → B} {P : A → Type 0} {meaning′ : C → D} {Q : C → Type 0} {says : Says A} {g : Got B}
-    (i : Answers sheet meaning P says g) (f : B → List ℕ → Got D) where
-  pub stops : {r : Refusal} → says ≡ refuses r → Answers sheet meaning′ Q (refuses r) (g andThen f)
+module _ {A B D : Type 0} {sheet : List ℕ} {meaning : A → B} {P : A → Type 0} {says : Says A} {g : Got B} (i : Answers sheet meaning P says g) (f : B → List ℕ → Got D) where
+  pub then-stops : {r : Refusal} → says ≡ refuses r → (g andThen f) ≡ fails r
   unfolding _andThen_
-  stops e = refused (ap (λ (x : Got B). x andThen f) (sym ((rw e at i) .is)))
+  then-stops e = ap (λ (x : Got B). x andThen f) (sym ((rw e at i) .is))
 
-  pub goes-on : {a : A} {next : ℕ} {says′ : Says C} → says ≡ reads a next → Answers sheet meaning′ Q says′ (f (meaning a) (drop next sheet)) → Answers sheet meaning′ Q says′ (g andThen f)
+  pub then-on : {a : A} {next : ℕ} → says ≡ reads a next → (g andThen f) ≡ f (meaning a) (drop next sheet)
   unfolding _andThen_
-  goes-on e j = same-reading (ap (λ (x : Got B). x andThen f) (sym ((rw e at i) .is))) j
+  then-on e = ap (λ (x : Got B). x andThen f) (sym ((rw e at i) .is))
+
+  module _ {C : Type 0} {meaning′ : C → D} {Q : C → Type 0} where
+    pub stops : {r : Refusal} → says ≡ refuses r → Answers sheet meaning′ Q (refuses r) (g andThen f)
+    stops e = refused (then-stops e)
+
+    pub goes-on : {a : A} {next : ℕ} {says′ : Says C} → says ≡ reads a next → Answers sheet meaning′ Q says′ (f (meaning a) (drop next sheet)) → Answers sheet meaning′ Q says′ (g andThen f)
+    goes-on e j = same-reading (then-on e) j
 
 -- what holds of what was read
 pub read-within : {A B : Type 0} {sheet : List ℕ} {meaning : A → B} {P : A → Type 0} {says : Says A} {g : Got B} {a : A} {next : ℕ}

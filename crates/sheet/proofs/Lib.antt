@@ -5,3 +5,4 @@ pub mod NumberLaws
 pub mod NameLaws
 pub mod ValueLaws
 pub mod RowLaws
+pub mod PlaceLaws

@@ -2,3 +2,4 @@
 pub mod Sheet
 pub mod Begins
 pub mod Answers
+pub mod Places

@@ -5,6 +5,7 @@ ghost use Prim.Native.Nat.{_+_, _^_, _≤_};
 ghost use lib.ListN.{length, drop};
 ghost use Rattle.sheet.specs.Sheet as sheets;
 ghost use Rattle.sheet.specs.Answers.{NumberIs, NameIs, ValueIs, SegmentIs, TargetIs, SkippedIs, bytesAt, ended, floatRead, segmentAfter};
+ghost use Rattle.sheet.specs.Places.{answerIn, placesAfter, sheetPlaces};
 use base::Span;
 use refusal::Refusal;
 
@@ -66,6 +67,24 @@ pub enum GotTarget {
 pub enum Skipped {
     Refused(Refusal),
     To(usize),
+}
+
+// Segments or targets: how many, and the place of the first.
+pub struct Row {
+    pub count: usize,
+    pub at: usize,
+}
+
+// Where a sheet has its segments and its targets.
+pub struct Places {
+    pub segments: Row,
+    pub targets: Row,
+}
+
+// A sheet that was read, or why it is refused.
+pub enum SheetAnswer {
+    Refused(Refusal),
+    Read(Places),
 }
 
 // The value as f32: a whole number to the nearest, ties to even; 0 where it is absent.
@@ -306,4 +325,48 @@ fn skip_targets(sheet: &[u8], at: usize, count: usize) -> Skipped
         left -= 1;
     }
     Skipped::To(place)
+}
+
+// The rest of a sheet, from its target count on.
+fn read_after_segments(sheet: &[u8], at: usize, segments: Row) -> SheetAnswer
+    ensures { λ r.
+        ⌜ r ≡ answerIn (placesAfter (now (sheet .entry)) segments (drop at (now (sheet .entry)))) ⌝ }
+{
+    match read_count(sheet, at) {
+        GotNumber::Malformed => SheetAnswer::Refused(Refusal::BadSheet),
+        GotNumber::Read(count, from) => match skip_targets(sheet, from, count) {
+            Skipped::Refused(cause) => SheetAnswer::Refused(cause),
+            Skipped::To(end) => {
+                if end < sheet.len() {
+                    return SheetAnswer::Refused(Refusal::BadSheet);
+                }
+                SheetAnswer::Read(Places {
+                    segments: segments,
+                    targets: Row {
+                        count: count,
+                        at: from,
+                    },
+                })
+            }
+        },
+    }
+}
+
+// Reads a sheet: its parts, or the first 8 or 9.
+pub fn read_sheet(sheet: &[u8]) -> SheetAnswer
+    ensures { λ r. ⌜ r ≡ answerIn (sheetPlaces (now (sheet .entry))) ⌝ }
+{
+    match read_count(sheet, 0) {
+        GotNumber::Malformed => SheetAnswer::Refused(Refusal::BadSheet),
+        GotNumber::Read(count, from) => match skip_segments(sheet, from, count) {
+            Skipped::Refused(cause) => SheetAnswer::Refused(cause),
+            Skipped::To(next) => {
+                let segments = Row {
+                    count: count,
+                    at: from,
+                };
+                read_after_segments(sheet, next, segments)
+            }
+        },
+    }
 }
