@@ -6,3 +6,6 @@ pub mod NameLaws
 pub mod ValueLaws
 pub mod RowLaws
 pub mod PlaceLaws
+pub mod SuffixLaws
+pub mod WalkLaws
+pub mod ReadLaws

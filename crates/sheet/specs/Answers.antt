@@ -92,9 +92,12 @@ segmentSays segment.NotFinite = refuses NotFinite
 segmentSays (segment.Read s next) = reads s next
 
 -- its name is within the sheet, and its follower at most the count
+abbrev pub SegmentSaid : List ℕ → ℕ → Says Segment → Got SegmentRead → Type 0
+SegmentSaid sheet count says reading =
+    Answers sheet (segmentRead sheet) (λ s. (s .name .at + s .name .len ≤ length sheet) × (s .follower ≤ count)) says reading
+
 abbrev pub SegmentIs : List ℕ → ℕ → GotSegment → Got SegmentRead → Type 0
-SegmentIs sheet count r reading =
-    Answers sheet (segmentRead sheet) (λ s. (s .name .at + s .name .len ≤ length sheet) × (s .follower ≤ count)) (segmentSays r) reading
+SegmentIs sheet count r reading = SegmentSaid sheet count (segmentSays r) reading
 
 -- the rest of a segment, after its name
 abbrev pub segmentAfter : ℕ → List ℕ → List ℕ → Got SegmentRead
@@ -108,8 +111,11 @@ targetSays target.Malformed = refuses BadSheet
 targetSays target.NotFinite = refuses NotFinite
 targetSays (target.Read t next) = reads t next
 
+abbrev pub TargetSaid : List ℕ → Says Target → Got Target → Type 0
+TargetSaid sheet says reading = Answers sheet (λ t. t) (λ t. Unit) says reading
+
 abbrev pub TargetIs : List ℕ → GotTarget → Got Target → Type 0
-TargetIs sheet r reading = Answers sheet (λ t. t) (λ t. Unit) (targetSays r) reading
+TargetIs sheet r reading = TargetSaid sheet (targetSays r) reading
 
 -- where a reading ends, whatever it read
 abbrev pub ended : {A : Type 0} → Got A → Got Unit

@@ -1,4 +1,5 @@
 -- Where a sheet has its segments and its targets: the reading of `sheetFrom`, with places for what was read.
+use mathlib.Core.Bool.{Bool, true, false}
 use mathlib.Core.List.{List}
 use Prim.Native.Nat.{ℕ, _-_}
 use lib.Dec.{ltb}
@@ -29,3 +30,7 @@ sheetPlaces sheet =
 abbrev pub answerIn : Got Places → SheetAnswer
 answerIn (fails r) = Refused r
 answerIn (gets p bs) = Read p
+
+abbrev pub isRead : {A : Type 0} → Got A → Bool
+isRead (fails r) = false
+isRead (gets x bs) = true
