@@ -11,10 +11,11 @@ use lib.ListN.{length, drop}
 use Rattle.refusal.specs.declared.Refusal.{Refusal}
 use Rattle.refusal.specs.declared.Refusal.the-variants.{BadSheet}
 use Rattle.sheet.specs.Sheet.{SegmentRead, Sheet, Got, fails, gets, _andThen_, malformedIf, count, segment, target, repeated, sheetFrom, refusalIn, sheetRefusal, sheetGot, sheetOf}
-use Rattle.sheet.specs.Places.{rowAt, placesAfter, sheetPlaces, answerIn}
+use Rattle.sheet.specs.Places.{rowAt, placesAfter, sheetPlaces, answerIn, refusalOf}
 use Rattle.sheet.specs.declared.Row.{Row}
 use Rattle.sheet.specs.declared.Places.{Places}
 use Rattle.sheet.specs.declared.Target.{Target}
+use Rattle.sheet.specs.declared.SheetAnswer.{SheetAnswer}
 use Rattle.sheet.specs.declared.SheetAnswer.the-variants.{Refused, Read}
 use Rattle.sheet.proofs.SheetLaws.{Came, came, formed, refused-got}
 use Rattle.sheet.proofs.SuffixLaws.{Suffix, suffix-place, Leaves, nothing, end, count-leaves, segment-leaves, target-leaves, repeated-leaves, trans}
@@ -38,6 +39,14 @@ places-refusal sheet =
     same-then (repeated (segment n) n r) _ _ (λ ss r₁.
     same-then (count r₁) _ _ (λ m r₂.
     same-then (repeated target m r₂) _ _ (λ ts r₃. same-if (ltb 0 (length r₃)) _ _ r₃))))
+
+-- an answer with the places says the refusal too
+pub answer-refusal : (sheet : List ℕ) (r : SheetAnswer) → r ≡ answerIn (sheetPlaces sheet) → (r ≡ answerIn (sheetPlaces sheet)) × (refusalOf r ≡ sheetRefusal sheet)
+answer-refusal sheet r e = (e, ap refusalOf e ∙ by (sheetPlaces sheet) ∙ places-refusal sheet)
+  where
+    by : (g : Got Places) → refusalOf (answerIn g) ≡ refusalIn g
+    by (fails c) = refl
+    by (gets p bs) = refl
 
 -- ---- the same rows
 

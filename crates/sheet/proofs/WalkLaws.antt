@@ -1,14 +1,23 @@
 -- Walking a row that was read, item by item.
 use mathlib.Core.Path.{_≡_, refl, sym, ap, _∙_}
-use mathlib.Core.Bool.{true, false}
+use mathlib.Core.Bool.{true, false, true≢false}
 use mathlib.Core.List.{List, [], _∷_}
 use Prim.Native.Nat.{ℕ, zero, suc, _-_}
 use native.Mathlib.Omega.{arith}
 use lib.ListN.{length, drop}
+use Rattle.refusal.specs.declared.Refusal.{Refusal}
 use Rattle.sheet.specs.Sheet.{Got, fails, gets, _andThen_, repeated}
-use Rattle.sheet.specs.Answers.{Says, reads, Answers}
+use Rattle.sheet.specs.Answers.{Says, refuses, reads, Answers}
 use Rattle.sheet.specs.Places.{isRead}
 use Rattle.sheet.proofs.SheetLaws.{Came, came, refused-got}
+
+-- where something is read, no refusal is answered
+pub not-refused : {A B : Type 0} {sheet : List ℕ} {meaning : A → B} {P : A → Type 0} {says : Says A} {g : Got B} {r : Refusal}
+    → Answers sheet meaning P says g → says ≡ refuses r → isRead g ≡ true → ⊥
+not-refused i e h =
+    let f = (rw e at i) .is in
+    let z : false ≡ true = ap isRead f ∙ h in
+    true≢false (sym z)
 
 module _ {B : Type 0} (one : List ℕ → Got B) (sheet : List ℕ) where
   -- from a place of the sheet on, k items are read, and they are xs

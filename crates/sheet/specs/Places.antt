@@ -1,9 +1,11 @@
 -- Where a sheet has its segments and its targets: the reading of `sheetFrom`, with places for what was read.
 use mathlib.Core.Bool.{Bool, true, false}
 use mathlib.Core.List.{List}
+use mathlib.Core.Option.{Option, none, some}
 use Prim.Native.Nat.{ℕ, _-_}
 use lib.Dec.{ltb}
 use lib.ListN.{length}
+use Rattle.refusal.specs.declared.Refusal.{Refusal}
 use Rattle.sheet.specs.Sheet.{Got, fails, gets, _andThen_, malformedIf, count, segment, target, repeated}
 use Rattle.sheet.specs.declared.Row.{Row}
 use Rattle.sheet.specs.declared.Places.{Places}
@@ -31,6 +33,11 @@ abbrev pub answerIn : Got Places → SheetAnswer
 answerIn (fails r) = Refused r
 answerIn (gets p bs) = Read p
 
+abbrev pub refusalOf : SheetAnswer → Option Refusal
+refusalOf (Refused r) = some r
+refusalOf (Read p) = none
+
+-- something was read
 abbrev pub isRead : {A : Type 0} → Got A → Bool
 isRead (fails r) = false
 isRead (gets x bs) = true

@@ -1,11 +1,12 @@
 // The call sheet: segments with their ends, pitch targets. A reader takes the sheet and a place in
 // it, and answers what stands there and the place after it.
 ghost use mathlib.Core.Path.{_≡_};
+ghost use mathlib.Core.Bool.{true};
 ghost use Prim.Native.Nat.{_+_, _^_, _≤_};
 ghost use lib.ListN.{length, drop};
 ghost use Rattle.sheet.specs.Sheet as sheets;
-ghost use Rattle.sheet.specs.Answers.{NumberIs, NameIs, ValueIs, SegmentIs, TargetIs, SkippedIs, bytesAt, ended, floatRead, segmentAfter};
-ghost use Rattle.sheet.specs.Places.{answerIn, placesAfter, sheetPlaces};
+ghost use Rattle.sheet.specs.Answers.{reads, NumberIs, NameIs, ValueIs, SegmentSaid, SegmentIs, TargetSaid, TargetIs, SkippedIs, bytesAt, ended, floatRead, segmentAfter};
+ghost use Rattle.sheet.specs.Places.{answerIn, isRead, placesAfter, refusalOf, sheetPlaces};
 use base::Span;
 use refusal::Refusal;
 
@@ -79,6 +80,18 @@ pub struct Row {
 pub struct Places {
     pub segments: Row,
     pub targets: Row,
+}
+
+// A segment of a sheet that was read, and the place after it.
+pub struct SegmentStep {
+    pub segment: Segment,
+    pub next: usize,
+}
+
+// A target of a sheet that was read, and the place after it.
+pub struct TargetStep {
+    pub target: Target,
+    pub next: usize,
 }
 
 // A sheet that was read, or why it is refused.
@@ -354,7 +367,11 @@ fn read_after_segments(sheet: &[u8], at: usize, segments: Row) -> SheetAnswer
 
 // Reads a sheet: its parts, or the first 8 or 9.
 pub fn read_sheet(sheet: &[u8]) -> SheetAnswer
-    ensures { λ r. ⌜ r ≡ answerIn (sheetPlaces (now (sheet .entry))) ⌝ }
+    ensures { λ r.
+        ⌜
+        (r ≡ answerIn (sheetPlaces (now (sheet .entry)))) ×
+        (refusalOf r ≡ sheets.sheetRefusal (now (sheet .entry)))
+        ⌝ }
 {
     match read_count(sheet, 0) {
         GotNumber::Malformed => SheetAnswer::Refused(Refusal::BadSheet),
@@ -367,6 +384,66 @@ pub fn read_sheet(sheet: &[u8]) -> SheetAnswer
                 };
                 read_after_segments(sheet, next, segments)
             }
+        },
+    }
+}
+
+// Stands where nothing was read.
+fn no_segment(at: usize) -> SegmentStep {
+    SegmentStep {
+        segment: Segment {
+            name: Span { at: 0, len: 0 },
+            end: Value::Absent,
+            follower: 0,
+        },
+        next: at,
+    }
+}
+
+// Stands where nothing was read.
+fn no_target(at: usize) -> TargetStep {
+    TargetStep {
+        target: Target {
+            pos: Value::Absent,
+            f0: Value::Absent,
+        },
+        next: at,
+    }
+}
+
+// The segment at a place that the reading of the sheet reached.
+pub fn segment_at(sheet: &[u8], at: usize, count: usize) -> SegmentStep
+    requires { ⌜ isRead (sheets.segment count (drop at (now sheet))) ≡ true ⌝ }
+    ensures { λ r.
+        ⌜
+        SegmentSaid (now (sheet .entry)) count (reads (r .segment) (r .next))
+        (sheets.segment count (drop at (now (sheet .entry))))
+        ⌝ }
+{
+    match read_segment(sheet, at, count) {
+        GotSegment::Malformed => no_segment(at),
+        GotSegment::NotFinite => no_segment(at),
+        GotSegment::Read(segment, next) => SegmentStep {
+            segment: segment,
+            next: next,
+        },
+    }
+}
+
+// The target at a place that the reading of the sheet reached.
+pub fn target_at(sheet: &[u8], at: usize) -> TargetStep
+    requires { ⌜ isRead (sheets.target (drop at (now sheet))) ≡ true ⌝ }
+    ensures { λ r.
+        ⌜
+        TargetSaid (now (sheet .entry)) (reads (r .target) (r .next)) (sheets.target (drop at (now (sheet .entry))))
+        ⌝ }
+{
+    match read_target(sheet, at) {
+        GotTarget::Malformed => no_target(at),
+        GotTarget::NotFinite => no_target(at),
+        GotTarget::Read(target, next) => TargetStep {
+            target: target,
+            next: next,
         },
     }
 }

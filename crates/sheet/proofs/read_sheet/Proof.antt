@@ -3,6 +3,7 @@ use Rattle.sheet.specs.Answers.{numberSays, skippedSays}
 use Rattle.sheet.specs.Places.{answerIn}
 use Rattle.sheet.proofs.AnswerLaws.{read-within}
 use Rattle.sheet.proofs.PlaceLaws.{segments-uncounted, segments-refused, segments-read}
+use Rattle.sheet.proofs.ReadLaws.{answer-refusal}
 use borrow.Author.Needs.{needs}
 use Rattle.sheet.proofs.read_sheet.Statement.{statement}
 use Rattle.sheet.proofs.read_sheet.Tie as tie
@@ -29,19 +30,19 @@ read-after-segments-requires : tie.Need-read-after-segments-requires
 read-after-segments-requires c κs = search needs
 
 returns : tie.Need-returns
-returns c = sym (ap answerIn (segments-uncounted (c .before .before .read-count .ensures) (ap numberSays (c .enum-told .given .1))))
+returns c = answer-refusal _ _ (sym (ap answerIn (segments-uncounted (c .before .before .read-count .ensures) (ap numberSays (c .enum-told .given .1)))))
 
 returns-2 : tie.Need-returns-2
 returns-2 c =
     let k = c .before .before .before in
     let n = k .before .before .before .before in
-    sym (ap answerIn (segments-refused (n .read-count .ensures) (ap numberSays (k .before .before .count .given .1)) (k .skip-segments .ensures) (ap skippedSays (c .before .cause .given .1))))
+    answer-refusal _ _ (sym (ap answerIn (segments-refused (n .read-count .ensures) (ap numberSays (k .before .before .count .given .1)) (k .skip-segments .ensures) (ap skippedSays (c .before .cause .given .1)))))
 
 returns-3 : tie.Need-returns-3
 returns-3 c =
     let k = c .before .before .before .before in
     let n = k .before .before .before .before in
-    c .read-after-segments .ensures ∙ sym (ap answerIn (segments-read (n .read-count .ensures) (ap numberSays (k .before .before .count .given .1)) (k .skip-segments .ensures) (ap skippedSays (c .before .before .next .given .1))))
+    answer-refusal _ _ (c .read-after-segments .ensures ∙ sym (ap answerIn (segments-read (n .read-count .ensures) (ap numberSays (k .before .before .count .given .1)) (k .skip-segments .ensures) (ap skippedSays (c .before .before .next .given .1)))))
 
 pub read-sheet-spec : {M : Type 1} → statement M
 read-sheet-spec =
