@@ -9,3 +9,4 @@ pub mod PlaceLaws
 pub mod SuffixLaws
 pub mod WalkLaws
 pub mod ReadLaws
+pub mod FollowerLaws

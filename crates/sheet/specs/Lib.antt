@@ -3,3 +3,4 @@ pub mod Sheet
 pub mod Begins
 pub mod Answers
 pub mod Places
+pub mod Followers

@@ -6,6 +6,7 @@ ghost use Prim.Native.Nat.{_+_, _^_, _≤_};
 ghost use lib.ListN.{length, drop};
 ghost use Rattle.sheet.specs.Sheet as sheets;
 ghost use Rattle.sheet.specs.Answers.{reads, NumberIs, NameIs, ValueIs, SegmentSaid, SegmentIs, TargetSaid, TargetIs, SkippedIs, bytesAt, ended, floatRead, segmentAfter};
+ghost use Rattle.sheet.specs.Followers.{nameOf};
 ghost use Rattle.sheet.specs.Places.{answerIn, isRead, placesAfter, refusalOf, sheetPlaces};
 use base::Span;
 use refusal::Refusal;
@@ -446,4 +447,34 @@ pub fn target_at(sheet: &[u8], at: usize) -> TargetStep
             next: next,
         },
     }
+}
+
+// Where the name stands of the segment with a number from 1; nowhere for 0, or a number above the
+// count.
+pub fn name_of(sheet: &[u8], places: Places, number: usize) -> Span
+    requires { ⌜ answerIn (sheetPlaces (now sheet)) ≡ SheetAnswer.Read places ⌝ }
+    ensures { λ r.
+        ⌜
+        (bytesAt (now (sheet .entry)) r ≡ nameOf (sheets.sheetOf (now (sheet .entry)) .segments) number) ×
+        (r .at + r .len ≤ length (now (sheet .entry)))
+        ⌝ }
+{
+    let row = places.segments;
+    let count = row.count;
+    let mut at = row.at;
+    if number == 0 {
+        return Span { at: 0, len: 0 };
+    }
+    if count < number {
+        return Span { at: 0, len: 0 };
+    }
+    let mut left = number;
+    while 1 < left {
+        let step = segment_at(sheet, at, count);
+        at = step.next;
+        left -= 1;
+    }
+    let found = segment_at(sheet, at, count);
+    let segment = found.segment;
+    segment.name
 }
