@@ -19,7 +19,7 @@ use Rattle.sheet.specs.declared.SheetAnswer.{SheetAnswer}
 use Rattle.sheet.specs.declared.SheetAnswer.the-variants.{Refused, Read}
 use Rattle.sheet.proofs.SheetLaws.{Came, came, formed, refused-got}
 use Rattle.sheet.proofs.SuffixLaws.{Suffix, suffix-place, Leaves, nothing, end, count-leaves, segment-leaves, target-leaves, repeated-leaves, trans}
-use Rattle.sheet.proofs.WalkLaws.{Ahead}
+use Rattle.sheet.proofs.WalkLaws.{Ahead, Walk, walk-yields}
 
 -- ---- the same refusals
 
@@ -144,3 +144,13 @@ sheet-rows sheet p e = by (sheetPlaces sheet) refl e
     by : (g : Got Places) → sheetPlaces sheet ≡ g → answerIn g ≡ Read p → Rows sheet p
     by (fails c) f h = let z : _≡_ {A = ℕ} 0 1 = cc in absurd (omega arith)
     by (gets x q) f h = let i : x ≡ p = cc in rows-of sheet p (parts sheet p q (f ∙ ap (λ (y : Places). gets y q) i))
+
+-- as many steps from the first place as there are segments yield the segments in order, and the same of targets
+module _ (sheet : List ℕ) (p : Places) (e : answerIn (sheetPlaces sheet) ≡ Read p) where
+  pub segments-walk : {A : Type 0} {meaning : A → SegmentRead} {P : A → Type 0} (ss : List SegmentRead)
+      → Walk (segment (p .segments .count)) sheet meaning P (p .segments .at) ss → length ss ≡ p .segments .count → ss ≡ sheetOf sheet .segments
+  segments-walk ss w n = walk-yields (segment (p .segments .count)) sheet (p .segments .count) (p .segments .at) (sheetOf sheet .segments) ss (sheet-rows sheet p e .segments) w n
+
+  pub targets-walk : {A : Type 0} {meaning : A → Target} {P : A → Type 0} (ts : List Target)
+      → Walk target sheet meaning P (p .targets .at) ts → length ts ≡ p .targets .count → ts ≡ sheetOf sheet .targets
+  targets-walk ts w n = walk-yields target sheet (p .targets .count) (p .targets .at) (sheetOf sheet .targets) ts (sheet-rows sheet p e .targets) w n

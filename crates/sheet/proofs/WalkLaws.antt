@@ -86,3 +86,16 @@ module _ {B : Type 0} (one : List ℕ → Got B) (sheet : List ℕ) where
 
   pub ahead-length : (k at : ℕ) (xs : List B) → Ahead k at xs → length xs ≡ k
   ahead-length k at xs a = many k (drop at sheet) xs (a .rest) (a .is)
+
+  -- items answered one after the other, from a place on
+  pub data Walk {A : Type 0} (meaning : A → B) (P : A → Type 0) : ℕ → List B → Type 0 where
+    stop : {at : ℕ} → Walk meaning P at []
+    step : {at next : ℕ} {a : A} {xs : List B} → Answers sheet meaning P (reads a next) (one (drop at sheet)) → Walk meaning P next xs → Walk meaning P at (meaning a ∷ xs)
+
+  -- as many of them as were read are those that were read
+  pub walk-yields : {A : Type 0} {meaning : A → B} {P : A → Type 0} (k at : ℕ) (xs ys : List B) → Ahead k at xs → Walk meaning P at ys → length ys ≡ k → ys ≡ xs
+  walk-yields k at xs ys h stop e = sym (ahead-none k at xs (sym e) h)
+  walk-yields {meaning = meaning} k at xs ys h (step {next = next} {a = a} {xs = zs} i w) e =
+      let n : length zs ≡ k - 1 = omega arith in
+      let t = ahead-step k at xs a next (λ z. omega arith) h i in
+      ap (λ (us : List B). meaning a ∷ us) (walk-yields (k - 1) next (t .items) zs (t .ahead) w n) ∙ sym (t .whole)
