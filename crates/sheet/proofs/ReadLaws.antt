@@ -1,24 +1,20 @@
 -- What the places of a sheet say of `sheetOf` and `sheetRefusal`.
 use mathlib.Core.Path.{_≡_, refl, sym, ap, subst, _∙_}
 use mathlib.Core.Bool.{Bool, true, false}
-use mathlib.Core.List.{List, [], _∷_}
-use mathlib.Core.Option.{Option, none, some}
-use Prim.Native.Nat.{ℕ, zero, suc, _-_, _≤_}
+use mathlib.Core.List.{List}
+use Prim.Native.Nat.{ℕ, _≤_}
 use native.Mathlib.Omega.{arith}
 use borrow.Author.Tests.{ltb-false}
 use lib.Dec.{ltb}
-use lib.ListN.{length, drop}
-use Rattle.refusal.specs.declared.Refusal.{Refusal}
-use Rattle.refusal.specs.declared.Refusal.the-variants.{BadSheet}
+use lib.ListN.{length}
 use Rattle.sheet.specs.Sheet.{SegmentRead, Sheet, Got, fails, gets, _andThen_, malformedIf, count, segment, target, repeated, sheetFrom, refusalIn, sheetRefusal, sheetGot, sheetOf}
 use Rattle.sheet.specs.Places.{rowAt, placesAfter, sheetPlaces, answerIn, refusalOf}
-use Rattle.sheet.specs.declared.Row.{Row}
 use Rattle.sheet.specs.declared.Places.{Places}
 use Rattle.sheet.specs.declared.Target.{Target}
 use Rattle.sheet.specs.declared.SheetAnswer.{SheetAnswer}
-use Rattle.sheet.specs.declared.SheetAnswer.the-variants.{Refused, Read}
-use Rattle.sheet.proofs.SheetLaws.{Came, came, formed, refused-got}
-use Rattle.sheet.proofs.SuffixLaws.{Suffix, suffix-place, Leaves, nothing, end, count-leaves, segment-leaves, target-leaves, repeated-leaves, trans}
+use Rattle.sheet.specs.declared.SheetAnswer.the-variants.{Read}
+use Rattle.sheet.proofs.SheetLaws.{came, formed, refused-got}
+use Rattle.sheet.proofs.SuffixLaws.{Suffix, suffix-place, Leaves, nothing, end, count-leaves, segment-leaves, repeated-leaves, trans}
 use Rattle.sheet.proofs.WalkLaws.{Ahead, Walk, walk-yields}
 
 -- ---- the same refusals

@@ -6,17 +6,14 @@ use Prim.Native.Nat.{ℕ, zero, suc, _+_, _-_, _*_, _≤_}
 use native.Mathlib.Omega.{arith}
 use borrow.Author.Tests.{ltb-false}
 use lib.Dec.{ltb, leb}
-use lib.Ieee.{Float, binary32, ofBits}
+use lib.Ieee.{Float}
 use lib.ListN.{length, take, drop, length-drop}
 use lib.Seq.{drop-drop}
 use Rattle.base.specs.Choice.{pick}
-use Rattle.base.specs.Bytes.{littleEndian}
-use Rattle.base.specs.Words.{signed32}
 use Rattle.refusal.specs.declared.Refusal.{Refusal}
 use Rattle.refusal.specs.declared.Refusal.the-variants.{NotFinite}
 use Rattle.sheet.specs.Sheet.{Got, fails, gets, _andThen_, malformedIf, groups, number, count, printable, name, isFinite, finite, valueOf, value, segment, target, repeated}
-use Rattle.sheet.specs.declared.Value.{Value}
-use Rattle.sheet.specs.declared.Value.the-variants.{Int, Float as FloatValue}
+use Rattle.sheet.specs.declared.Value.the-variants.{Float as FloatValue}
 
 pub record Suffix (r bs : List ℕ) : Type 0 where
   pub by : ℕ

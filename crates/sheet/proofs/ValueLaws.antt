@@ -1,7 +1,7 @@
 -- Which bits are a finite float; values by their kind.
 use mathlib.Core.Path.{_≡_, refl, sym, ap, _∙_}
 use mathlib.Core.Bool.{Bool, true, false, cond}
-use mathlib.Core.List.{List, [], _∷_}
+use mathlib.Core.List.{List}
 use Prim.Native.Nat.{ℕ, zero, suc, _+_, _-_, _/_, _%_, _≤_, _<_}
 use native.Mathlib.Nat.{add-zero}
 use native.Mathlib.Omega.{arith}
@@ -15,12 +15,12 @@ use Rattle.base.specs.Bytes.{littleEndian}
 use Rattle.base.specs.Words.{signed32}
 use Rattle.base.proofs.ByteLaws.{littleEndian-drop}
 use Rattle.refusal.specs.declared.Refusal.the-variants.{BadSheet, NotFinite}
-use Rattle.sheet.specs.Sheet.{Got, fails, gets, malformedIf, isFinite, finite, valueOf, value}
+use Rattle.sheet.specs.Sheet.{fails, gets, malformedIf, isFinite, finite, valueOf, value}
 use Rattle.sheet.specs.Answers.{Says, refuses, reads, Answers, valueSays, floatRead}
 use Rattle.sheet.specs.declared.Value.{Value}
 use Rattle.sheet.specs.declared.Value.the-variants.{Int, Float as FloatValue, Absent}
 use Rattle.sheet.specs.declared.GotValue.the-variants as answer
-use Rattle.sheet.proofs.AnswerLaws.{from-place, refused, read, same-reading, test-passes, test-fails}
+use Rattle.sheet.proofs.AnswerLaws.{from-place, refused, read, same-reading, test-fails}
 
 -- ---- finite floats
 

@@ -6,10 +6,10 @@ use Prim.Native.Nat.{ℕ, zero, suc, _-_}
 use native.Mathlib.Omega.{arith}
 use lib.ListN.{length, drop}
 use Rattle.refusal.specs.declared.Refusal.{Refusal}
-use Rattle.sheet.specs.Sheet.{Got, fails, gets, _andThen_, repeated}
+use Rattle.sheet.specs.Sheet.{Got, gets, repeated}
 use Rattle.sheet.specs.Answers.{Says, refuses, reads, Answers}
 use Rattle.sheet.specs.Places.{isRead}
-use Rattle.sheet.proofs.SheetLaws.{Came, came, refused-got}
+use Rattle.sheet.proofs.SheetLaws.{came}
 
 -- where something is read, no refusal is answered
 pub not-refused : {A B : Type 0} {sheet : List ℕ} {meaning : A → B} {P : A → Type 0} {says : Says A} {g : Got B} {r : Refusal}

@@ -33,40 +33,40 @@ pub struct Target {
 }
 
 // A number that was read, and the place after it.
-pub enum GotNumber {
+enum GotNumber {
     Malformed,
     Read(usize, usize),
 }
 
 // Where a name stands that was read; the place after it is its end.
-pub enum GotName {
+enum GotName {
     Malformed,
     Read(Span),
 }
 
 // A value that was read, and the place after it.
-pub enum GotValue {
+enum GotValue {
     Malformed,
     NotFinite,
     Read(Value, usize),
 }
 
 // A segment that was read, and the place after it.
-pub enum GotSegment {
+enum GotSegment {
     Malformed,
     NotFinite,
     Read(Segment, usize),
 }
 
 // A target that was read, and the place after it.
-pub enum GotTarget {
+enum GotTarget {
     Malformed,
     NotFinite,
     Read(Target, usize),
 }
 
 // The place after some segments, or targets, in a row; or why they are refused.
-pub enum Skipped {
+enum Skipped {
     Refused(Refusal),
     To(usize),
 }
@@ -273,7 +273,7 @@ fn read_after_name(sheet: &[u8], name: Span, count: usize) -> GotSegment
 }
 
 // A segment of a sheet with so many segments.
-pub fn read_segment(sheet: &[u8], at: usize, count: usize) -> GotSegment
+fn read_segment(sheet: &[u8], at: usize, count: usize) -> GotSegment
     ensures { λ r.
         ⌜
         SegmentIs (now (sheet .entry)) count r (sheets.segment count (drop at (now (sheet .entry))))
@@ -286,7 +286,7 @@ pub fn read_segment(sheet: &[u8], at: usize, count: usize) -> GotSegment
 }
 
 // A target.
-pub fn read_target(sheet: &[u8], at: usize) -> GotTarget
+fn read_target(sheet: &[u8], at: usize) -> GotTarget
     ensures { λ r. ⌜ TargetIs (now (sheet .entry)) r (sheets.target (drop at (now (sheet .entry)))) ⌝ }
 {
     match read_value(sheet, at) {

@@ -1,12 +1,12 @@
+use mathlib.Core.Path.{ap}
 use Prim.Native.Nat.{ℕ, _-_, _<_}
 use native.Mathlib.Omega.{arith}
 use borrow.Author.Needs.{needs}
-use Rattle.sheet.proofs.NumberLaws.{groups-none, groups-end, groups-first, groups-last, groups-zero, groups-cut, groups-more, power-small}
-use Rattle.sheet.specs.Answers.{numberSays}
-use Rattle.sheet.proofs.AnswerLaws.{read-within}
-use mathlib.Core.Path.{ap}
 use borrow.Fn.Kinds.{In}
 use borrow.Fn.PlainCycle.{Measures, is, falls, and}
+use Rattle.sheet.specs.Answers.{numberSays}
+use Rattle.sheet.proofs.NumberLaws.{groups-none, groups-end, groups-first, groups-last, groups-zero, groups-cut, groups-more, power-small}
+use Rattle.sheet.proofs.AnswerLaws.{read-within}
 use Rattle.sheet.proofs.read_groups.Reads as groups
 use Rattle.sheet.proofs.read_groups.Kinds as groups-kinds
 use Rattle.sheet.proofs.+read_groups.Lts-read_groups as groups-lts
@@ -77,10 +77,10 @@ groups-sub-groups :
     (t : ℕ) → groups-lts.Need-sub-read-groups (groups-below t, groups.Post) (groups-at t) groups.Post
 groups-sub-groups t c = search needs
 
-groups-groups-requires :
+groups-read-groups-requires :
     (t : ℕ) →
     groups-lts.Need-read-groups-requires (groups-below t, groups.Post) (groups-at t) groups.Post
-groups-groups-requires t c κs = (omega arith, omega arith)
+groups-read-groups-requires t c κs = (omega arith, omega arith)
 
 groups-enum-told :
     (t : ℕ) → groups-lts.Need-enum-told (groups-below t, groups.Post) (groups-at t) groups.Post
@@ -141,7 +141,7 @@ pub +read-groups-spec : {M : Type 1} → statement M
     (groups-returns-5 t)
     (groups-add-groups t)
     (groups-sub-groups t)
-    (groups-groups-requires t)
+    (groups-read-groups-requires t)
     (groups-enum-told t)
     (groups-enum-known-high t)
     (groups-mul-t19 t)

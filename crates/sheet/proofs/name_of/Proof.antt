@@ -1,7 +1,6 @@
 use mathlib.Core.Path.{sym}
 use Prim.Native.Nat.{_≤_}
 use native.Mathlib.Omega.{arith}
-use Rattle.sheet.proofs.AnswerLaws.{read-within}
 use Rattle.sheet.proofs.ReadLaws.{sheet-rows}
 use Rattle.sheet.proofs.FollowerLaws.{Going, name-none, name-above, going-first, going-some, going-on, going-here}
 use borrow.Author.Needs.{needs}

@@ -1,5 +1,4 @@
 use mathlib.Core.Path.{refl, ap}
-use Prim.Native.Nat.{_<_}
 use native.Mathlib.Omega.{arith}
 use borrow.Author.Tests.{lt-ltb, le-ltb}
 use Rattle.sheet.specs.Sheet.{count}
