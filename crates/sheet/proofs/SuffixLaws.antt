@@ -12,7 +12,7 @@ use lib.Seq.{drop-drop}
 use Rattle.base.specs.Choice.{pick}
 use Rattle.refusal.specs.declared.Refusal.{Refusal}
 use Rattle.refusal.specs.declared.Refusal.the-variants.{NotFinite}
-use Rattle.sheet.specs.Sheet.{Got, fails, gets, _andThen_, malformedIf, groups, number, count, printable, name, isFinite, finite, valueOf, value, segment, target, repeated}
+use Rattle.sheet.specs.Sheet.{Got, fails, gets, _andThen_, malformedIf, groups, number, count, printable, name, isFinite, finite, valueOf, value, segment, repeated}
 use Rattle.sheet.specs.declared.Value.the-variants.{Float as FloatValue}
 
 pub record Suffix (r bs : List ℕ) : Type 0 where
@@ -124,10 +124,6 @@ segment-leaves n bs =
     leaves-then _ (name-leaves bs) (λ nm r.
     leaves-then _ (value-leaves r) (λ v r₁.
     leaves-then _ (number-leaves r₁) (λ f r₂. leaves-if (ltb n f) (λ e. end (all r₂)))))
-
-pub target-leaves : (bs : List ℕ) → Leaves bs (target bs)
-unfolding target
-target-leaves bs = leaves-then _ (value-leaves bs) (λ p r. leaves-then _ (value-leaves r) (λ f r₁. end (all r₁)))
 
 pub repeated-leaves : {A : Type 0} (one : List ℕ → Got A) → ((bs : List ℕ) → Leaves bs (one bs)) → (n : ℕ) (bs : List ℕ) → Leaves bs (repeated one n bs)
 unfolding repeated

@@ -2,16 +2,20 @@
 use mathlib.Core.Path.{_≡_}
 use mathlib.Core.List.{List}
 use Prim.Native.Nat.{ℕ, _+_, _≤_, _<_}
-use lib.ListN.{length, drop}
-use Rattle.refusal.specs.declared.Refusal.{Refusal}
-use Rattle.refusal.specs.declared.Refusal.the-variants.{BadSheet, NotFinite}
-use Rattle.sheet.specs.Sheet.{SegmentRead, Got, fails, gets, _andThen_, malformedIf, isFinite}
-use Rattle.sheet.specs.Sheet as sheets
 use lib.Dec.{ltb}
+use lib.ListN.{length, drop}
 use lib.Ieee.{binary32, ofBits}
 use Rattle.base.specs.Choice.{pick}
 use Rattle.base.specs.Lists.{part}
 use Rattle.base.specs.declared.Span.{Span}
+use Rattle.refusal.specs.declared.Refusal.{Refusal}
+use Rattle.refusal.specs.declared.Refusal.the-variants.{BadSheet, NotFinite}
+use Rattle.sheet.specs.Sheet.{SegmentRead, Got, fails, gets, _andThen_, malformedIf, isFinite}
+use Rattle.sheet.specs.Sheet as sheets
+use Rattle.sheet.specs.declared.Value.{Value}
+use Rattle.sheet.specs.declared.Value.the-variants.{Float as FloatValue}
+use Rattle.sheet.specs.declared.Segment.{Segment}
+use Rattle.sheet.specs.declared.Target.{Target}
 use Rattle.sheet.specs.declared.GotNumber.{GotNumber}
 use Rattle.sheet.specs.declared.GotNumber.the-variants as number
 use Rattle.sheet.specs.declared.GotName.{GotName}
@@ -24,10 +28,6 @@ use Rattle.sheet.specs.declared.GotTarget.{GotTarget}
 use Rattle.sheet.specs.declared.GotTarget.the-variants as target
 use Rattle.sheet.specs.declared.Skipped.{Skipped}
 use Rattle.sheet.specs.declared.Skipped.the-variants.{Refused, To}
-use Rattle.sheet.specs.declared.Segment.{Segment}
-use Rattle.sheet.specs.declared.Target.{Target}
-use Rattle.sheet.specs.declared.Value.{Value}
-use Rattle.sheet.specs.declared.Value.the-variants.{Float as FloatValue}
 
 -- a refusal, or what was read and the place after it
 pub data Says (A : Type 0) : Type 0 where

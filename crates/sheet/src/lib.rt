@@ -389,7 +389,7 @@ pub fn read_sheet(sheet: &[u8]) -> SheetAnswer
     }
 }
 
-// Stands where nothing was read.
+// An empty segment, for an answer that a sheet that was read does not give.
 fn no_segment(at: usize) -> SegmentStep {
     SegmentStep {
         segment: Segment {
@@ -401,7 +401,7 @@ fn no_segment(at: usize) -> SegmentStep {
     }
 }
 
-// Stands where nothing was read.
+// An empty target, for an answer that a sheet that was read does not give.
 fn no_target(at: usize) -> TargetStep {
     TargetStep {
         target: Target {
