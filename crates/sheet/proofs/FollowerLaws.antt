@@ -12,7 +12,7 @@ use Rattle.sheet.specs.Followers.{nameOf}
 use Rattle.sheet.specs.declared.Segment.{Segment}
 use Rattle.sheet.specs.declared.Places.{Places}
 use Rattle.sheet.proofs.WalkLaws.{Ahead, Step, ahead-some, ahead-step, ahead-length}
-use Rattle.sheet.proofs.ReadLaws.{Rows}
+use Rattle.sheet.proofs.ReadLaws.{SheetAhead}
 
 pub name-none : (ss : List SegmentRead) (n : ℕ) → n ≡ 0 → nameOf ss n ≡ []
 unfolding nameOf
@@ -65,7 +65,7 @@ module _ (sheet : List ℕ) (count number : ℕ) where
         let t = step (omega arith) in
         sym (name-first (segmentRead sheet s) (t .items) left e) ∙ ap (λ (xs : List SegmentRead). nameOf xs left) (sym (t .whole)) ∙ g .name
 
-module _ (sheet : List ℕ) (p : Places) (r : Rows sheet p) where
+module _ (sheet : List ℕ) (p : Places) (r : SheetAhead sheet p) where
   pub going-first : (number : ℕ) → number ≤ p .segments .count → Going sheet (p .segments .count) number (p .segments .at) number
   going-first number h =
       let c = p .segments .count in

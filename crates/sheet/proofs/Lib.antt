@@ -4,7 +4,7 @@ pub mod AnswerLaws
 pub mod NumberLaws
 pub mod NameLaws
 pub mod ValueLaws
-pub mod RowLaws
+pub mod ItemLaws
 pub mod PlaceLaws
 pub mod SuffixLaws
 pub mod WalkLaws

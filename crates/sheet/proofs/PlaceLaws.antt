@@ -11,81 +11,75 @@ use Rattle.refusal.specs.declared.Refusal.{Refusal}
 use Rattle.refusal.specs.declared.Refusal.the-variants.{BadSheet}
 use Rattle.sheet.specs.Sheet.{Got, fails, gets, _andThen_, malformedIf, count, segment, target, repeated}
 use Rattle.sheet.specs.Answers.{Says, refuses, reads, Answers, ended}
-use Rattle.sheet.specs.Places.{rowAt, placesAfter, sheetPlaces}
-use Rattle.sheet.specs.declared.Row.{Row}
+use Rattle.sheet.specs.Places.{itemsAt, placesAfter, sheetPlaces}
+use Rattle.sheet.specs.declared.Items.{Items}
 use Rattle.sheet.specs.declared.Places.{Places}
 use Rattle.sheet.proofs.AnswerLaws.{then-stops, then-on, read-within}
+use Rattle.sheet.proofs.ItemLaws.{after-items}
 
--- what comes after a row goes by where the row ends
-pub after-row : {A B : Type 0} (g : Got A) (f : List ℕ → Got B) → (g andThen λ x bs. f bs) ≡ (ended g andThen λ u bs. f bs)
-unfolding _andThen_
-after-row (fails r) f = refl
-after-row (gets x bs) f = refl
-
--- a row at a place of the sheet
-row-place : (sheet : List ℕ) (n at : ℕ) → at ≤ length sheet → rowAt sheet n (drop at sheet) ≡ record { count = n; at = at }
-row-place sheet n at h =
+-- items at a place of the sheet
+items-place : (sheet : List ℕ) (n at : ℕ) → at ≤ length sheet → itemsAt sheet n (drop at sheet) ≡ record { count = n; at = at }
+items-place sheet n at h =
     let e : length sheet - length (drop at sheet) ≡ at = rw length-drop (omega arith) in
     ap (λ (k : ℕ). record { count = n; at = k }) e
 
--- ---- from the target count on
+-- ---- a count, so many items, and what comes after them
 
-module _ {sheet : List ℕ} {P : ℕ → Type 0} {says : Says ℕ} (segments : Row) (bs : List ℕ) (i : Answers sheet (λ n. n) P says (count bs)) where
-  -- after the targets
-  abbrev last : ℕ → List ℕ → List ℕ → Got Places
-  last m r r₁ = malformedIf (ltb 0 (length r₁)) (gets (record { segments = segments; targets = rowAt sheet m r }) r₁)
+module _ {A : Type 0} (one : ℕ → List ℕ → Got A) (f : ℕ → List ℕ → List ℕ → Got Places) where
+  abbrev follow : ℕ → List ℕ → Got Places
+  follow n r = repeated (one n) n r andThen λ xs r₁. f n r r₁
 
-  abbrev next : ℕ → List ℕ → Got Places
-  next m r = repeated target m r andThen λ targets r₁. last m r r₁
+  abbrev pub counted : List ℕ → Got Places
+  counted bs = count bs andThen follow
 
-  pub targets-uncounted : {c : Refusal} → says ≡ refuses c → placesAfter sheet segments bs ≡ fails c
-  unfolding placesAfter
-  targets-uncounted e = then-stops i next e
+  module _ {sheet : List ℕ} {P : ℕ → Type 0} {says : Says ℕ} (bs : List ℕ) (i : Answers sheet (λ n. n) P says (count bs)) where
+    pub uncounted : {c : Refusal} → says ≡ refuses c → counted bs ≡ fails c
+    uncounted e = then-stops i follow e
 
-  module _ {m from : ℕ} (e : says ≡ reads m from) {Q : Unit → Type 0} {says′ : Says Unit} (j : Answers sheet (λ u. u) Q says′ (ended (repeated target m (drop from sheet)))) where
-    counted : placesAfter sheet segments bs ≡ (ended (repeated target m (drop from sheet)) andThen λ u r₁. last m (drop from sheet) r₁)
-    unfolding placesAfter
-    counted = then-on i next e ∙ after-row (repeated target m (drop from sheet)) (last m (drop from sheet))
+    module _ {n from : ℕ} (e : says ≡ reads n from) {Q : Unit → Type 0} {says′ : Says Unit} (j : Answers sheet (λ u. u) Q says′ (ended (repeated (one n) n (drop from sheet)))) where
+      by-end : counted bs ≡ (ended (repeated (one n) n (drop from sheet)) andThen λ u r₁. f n (drop from sheet) r₁)
+      by-end = then-on i follow e ∙ after-items (repeated (one n) n (drop from sheet)) (f n (drop from sheet))
 
-    pub targets-refused : {c : Refusal} → says′ ≡ refuses c → placesAfter sheet segments bs ≡ fails c
-    targets-refused f = counted ∙ then-stops j (λ u r₁. last m (drop from sheet) r₁) f
+      pub items-refused : {c : Refusal} → says′ ≡ refuses c → counted bs ≡ fails c
+      items-refused g = by-end ∙ then-stops j (λ u r₁. f n (drop from sheet) r₁) g
 
-    by-rest : (t : Bool) (end : ℕ) → says′ ≡ reads tt end → ltb 0 (length sheet - end) ≡ t
-        → placesAfter sheet segments bs ≡ malformedIf t (gets (record { segments = segments; targets = rowAt sheet m (drop from sheet) }) (drop end sheet))
-    by-rest t end f g =
-        let h : ltb 0 (length (drop end sheet)) ≡ t = rw length-drop g in
-        counted
-        ∙ then-on j (λ u r₁. last m (drop from sheet) r₁) f
-        ∙ ap (λ (u : Bool). malformedIf u (gets (record { segments = segments; targets = rowAt sheet m (drop from sheet) }) (drop end sheet))) h
+      pub items-read : {end : ℕ} → says′ ≡ reads tt end → counted bs ≡ f n (drop from sheet) (drop end sheet)
+      items-read g = by-end ∙ then-on j (λ u r₁. f n (drop from sheet) r₁) g
 
-    pub targets-over : {end : ℕ} → says′ ≡ reads tt end → end < length sheet → placesAfter sheet segments bs ≡ fails BadSheet
-    targets-over {end} f h = by-rest true end f (lt-ltb 0 (length sheet - end) (omega arith))
+-- ---- the two parts of a sheet
 
-    pub targets-read : {end : ℕ} → says′ ≡ reads tt end → length sheet ≤ end → placesAfter sheet segments bs ≡ gets (record { segments = segments; targets = record { count = m; at = from } }) (drop end sheet)
-    targets-read {end} f h =
-        by-rest false end f (le-ltb 0 (length sheet - end) (omega arith))
-        ∙ ap (λ (t : Row). gets (record { segments = segments; targets = t }) (drop end sheet)) (row-place sheet m from (read-within i e .0))
+module _ (sheet : List ℕ) where
+  -- after the segments come the targets
+  abbrev pub afterSegments : ℕ → List ℕ → List ℕ → Got Places
+  afterSegments n r r₁ = placesAfter sheet (itemsAt sheet n r) r₁
 
--- ---- from the segment count on
-
-module _ {sheet : List ℕ} {P : ℕ → Type 0} {says : Says ℕ} (i : Answers sheet (λ n. n) P says (count sheet)) where
-  abbrev next-s : ℕ → List ℕ → Got Places
-  next-s n r = repeated (segment n) n r andThen λ segments r₁. placesAfter sheet (rowAt sheet n r) r₁
-
-  pub segments-uncounted : {c : Refusal} → says ≡ refuses c → sheetPlaces sheet ≡ fails c
+  pub places-counted : sheetPlaces sheet ≡ counted segment afterSegments sheet
   unfolding sheetPlaces
-  segments-uncounted e = then-stops i next-s e
+  places-counted = refl
 
-  module _ {n from : ℕ} (e : says ≡ reads n from) {Q : Unit → Type 0} {says′ : Says Unit} (j : Answers sheet (λ u. u) Q says′ (ended (repeated (segment n) n (drop from sheet)))) where
-    counted-s : sheetPlaces sheet ≡ (ended (repeated (segment n) n (drop from sheet)) andThen λ u r₁. placesAfter sheet (rowAt sheet n (drop from sheet)) r₁)
-    unfolding sheetPlaces
-    counted-s = then-on i next-s e ∙ after-row (repeated (segment n) n (drop from sheet)) (placesAfter sheet (rowAt sheet n (drop from sheet)))
+  pub segments-here : (n from : ℕ) (r₁ : List ℕ) → from ≤ length sheet → afterSegments n (drop from sheet) r₁ ≡ placesAfter sheet (record { count = n; at = from }) r₁
+  segments-here n from r₁ h = ap (λ (s : Items). placesAfter sheet s r₁) (items-place sheet n from h)
 
-    pub segments-refused : {c : Refusal} → says′ ≡ refuses c → sheetPlaces sheet ≡ fails c
-    segments-refused f = counted-s ∙ then-stops j (λ u r₁. placesAfter sheet (rowAt sheet n (drop from sheet)) r₁) f
+  module _ (segments : Items) where
+    -- after the targets comes nothing
+    abbrev pub afterTargets : ℕ → List ℕ → List ℕ → Got Places
+    afterTargets m r r₁ = malformedIf (ltb 0 (length r₁)) (gets (record { segments = segments; targets = itemsAt sheet m r }) r₁)
 
-    pub segments-read : {end : ℕ} → says′ ≡ reads tt end → sheetPlaces sheet ≡ placesAfter sheet (record { count = n; at = from }) (drop end sheet)
-    segments-read {end} f =
-        counted-s
-        ∙ then-on j (λ u r₁. placesAfter sheet (rowAt sheet n (drop from sheet)) r₁) f
-        ∙ ap (λ (r : Row). placesAfter sheet r (drop end sheet)) (row-place sheet n from (read-within i e .0))
+    pub after-counted : (bs : List ℕ) → placesAfter sheet segments bs ≡ counted (λ m. target) afterTargets bs
+    unfolding placesAfter
+    after-counted bs = refl
+
+    by-rest : (t : Bool) (m : ℕ) (r : List ℕ) (end : ℕ) → ltb 0 (length sheet - end) ≡ t
+        → afterTargets m r (drop end sheet) ≡ malformedIf t (gets (record { segments = segments; targets = itemsAt sheet m r }) (drop end sheet))
+    by-rest t m r end e =
+        let h : ltb 0 (length (drop end sheet)) ≡ t = rw length-drop e in
+        ap (λ (u : Bool). malformedIf u (gets (record { segments = segments; targets = itemsAt sheet m r }) (drop end sheet))) h
+
+    pub bytes-over : (m : ℕ) (r : List ℕ) (end : ℕ) → end < length sheet → afterTargets m r (drop end sheet) ≡ fails BadSheet
+    bytes-over m r end h = by-rest true m r end (lt-ltb 0 (length sheet - end) (omega arith))
+
+    pub targets-here : (m from end : ℕ) → from ≤ length sheet → length sheet ≤ end
+        → afterTargets m (drop from sheet) (drop end sheet) ≡ gets (record { segments = segments; targets = record { count = m; at = from } }) (drop end sheet)
+    targets-here m from end l h =
+        by-rest false m (drop from sheet) end (le-ltb 0 (length sheet - end) (omega arith))
+        ∙ ap (λ (t : Items). gets (record { segments = segments; targets = t }) (drop end sheet)) (items-place sheet m from l)

@@ -8,7 +8,7 @@ use borrow.Author.Tests.{ltb-false}
 use lib.Dec.{ltb}
 use lib.ListN.{length}
 use Rattle.sheet.specs.Sheet.{SegmentRead, Sheet, Got, fails, gets, _andThen_, malformedIf, count, segment, target, repeated, sheetFrom, refusalIn, sheetRefusal, sheetGot, sheetOf}
-use Rattle.sheet.specs.Places.{rowAt, placesAfter, sheetPlaces, answerIn, refusalOf}
+use Rattle.sheet.specs.Places.{itemsAt, placesAfter, sheetPlaces, answerIn, refusalOf}
 use Rattle.sheet.specs.declared.Places.{Places}
 use Rattle.sheet.specs.declared.Target.{Target}
 use Rattle.sheet.specs.declared.SheetAnswer.{SheetAnswer}
@@ -44,10 +44,10 @@ answer-refusal sheet r e = (e, ap refusalOf e ∙ by (sheetPlaces sheet) ∙ pla
     by (fails c) = refl
     by (gets p bs) = refl
 
--- ---- the same rows
+-- ---- the same segments and targets
 
 -- the segments of the sheet are ahead of their first place, the targets of theirs
-pub record Rows (sheet : List ℕ) (p : Places) : Type 0 where
+pub record SheetAhead (sheet : List ℕ) (p : Places) : Type 0 where
   pub segments : Ahead (segment (p .segments .count)) sheet (p .segments .count) (p .segments .at) (sheetOf sheet .segments)
   pub targets : Ahead target sheet (p .targets .count) (p .targets .at) (sheetOf sheet .targets)
   pub few-segments : p .segments .count ≤ 4096
@@ -74,7 +74,7 @@ record Parts (sheet : List ℕ) (p : Places) : Type 0 where
   r₃ : List ℕ
   targeted : repeated target m r₂ ≡ gets ts r₃
   over : ltb 0 (length r₃) ≡ false
-  places : p ≡ record { segments = rowAt sheet n r; targets = rowAt sheet m r₂ }
+  places : p ≡ record { segments = itemsAt sheet n r; targets = itemsAt sheet m r₂ }
 
 parts : (sheet : List ℕ) (p : Places) (q : List ℕ) → sheetPlaces sheet ≡ gets p q → Parts sheet p
 unfolding sheetPlaces placesAfter
@@ -117,13 +117,13 @@ count-small bs n r e =
     let f = formed (ltb 4096 (a .value)) _ n _ r (a .after) in
     subst (λ (k : ℕ). k ≤ 4096) (f .1) (ltb-false 4096 (a .value) (f .0))
 
-rows-of : (sheet : List ℕ) (p : Places) → Parts sheet p → Rows sheet p
-rows-of sheet p k =
+ahead-of : (sheet : List ℕ) (p : Places) → Parts sheet p → SheetAhead sheet p
+ahead-of sheet p k =
     let s = sheet-is sheet p k in
     let a = rest-of (count-leaves sheet) (k .n) (k .r) (k .counted) in
     let b = rest-of (repeated-leaves (segment (k .n)) (segment-leaves (k .n)) (k .n) (k .r)) (k .ss) (k .r₁) (k .segmented) in
     let c = rest-of (count-leaves (k .r₁)) (k .m) (k .r₂) (k .recounted) in
-    subst (Rows sheet) (sym (k .places))
+    subst (SheetAhead sheet) (sym (k .places))
     (record {
       segments = record { rest = k .r₁; is = ap (repeated (segment (k .n)) (k .n)) (suffix-place a) ∙ k .segmented ∙ ap (λ (x : Sheet). gets (x .segments) (k .r₁)) (sym s) };
       targets = record { rest = k .r₃; is = ap (repeated target (k .m)) (suffix-place (trans c (trans b a))) ∙ k .targeted ∙ ap (λ (x : Sheet). gets (x .targets) (k .r₃)) (sym s) };
@@ -134,19 +134,19 @@ rows-of sheet p k =
     })
 
 -- a sheet that was read
-pub sheet-rows : (sheet : List ℕ) (p : Places) → answerIn (sheetPlaces sheet) ≡ Read p → Rows sheet p
-sheet-rows sheet p e = by (sheetPlaces sheet) refl e
+pub sheet-ahead : (sheet : List ℕ) (p : Places) → answerIn (sheetPlaces sheet) ≡ Read p → SheetAhead sheet p
+sheet-ahead sheet p e = by (sheetPlaces sheet) refl e
   where
-    by : (g : Got Places) → sheetPlaces sheet ≡ g → answerIn g ≡ Read p → Rows sheet p
+    by : (g : Got Places) → sheetPlaces sheet ≡ g → answerIn g ≡ Read p → SheetAhead sheet p
     by (fails c) f h = let z : _≡_ {A = ℕ} 0 1 = cc in absurd (omega arith)
-    by (gets x q) f h = let i : x ≡ p = cc in rows-of sheet p (parts sheet p q (f ∙ ap (λ (y : Places). gets y q) i))
+    by (gets x q) f h = let i : x ≡ p = cc in ahead-of sheet p (parts sheet p q (f ∙ ap (λ (y : Places). gets y q) i))
 
 -- as many steps from the first place as there are segments yield the segments in order, and the same of targets
 module _ (sheet : List ℕ) (p : Places) (e : answerIn (sheetPlaces sheet) ≡ Read p) where
   pub segments-walk : {A : Type 0} {meaning : A → SegmentRead} {P : A → Type 0} (ss : List SegmentRead)
       → Walk (segment (p .segments .count)) sheet meaning P (p .segments .at) ss → length ss ≡ p .segments .count → ss ≡ sheetOf sheet .segments
-  segments-walk ss w n = walk-yields (segment (p .segments .count)) sheet (p .segments .count) (p .segments .at) (sheetOf sheet .segments) ss (sheet-rows sheet p e .segments) w n
+  segments-walk ss w n = walk-yields (segment (p .segments .count)) sheet (p .segments .count) (p .segments .at) (sheetOf sheet .segments) ss (sheet-ahead sheet p e .segments) w n
 
   pub targets-walk : {A : Type 0} {meaning : A → Target} {P : A → Type 0} (ts : List Target)
       → Walk target sheet meaning P (p .targets .at) ts → length ts ≡ p .targets .count → ts ≡ sheetOf sheet .targets
-  targets-walk ts w n = walk-yields target sheet (p .targets .count) (p .targets .at) (sheetOf sheet .targets) ts (sheet-rows sheet p e .targets) w n
+  targets-walk ts w n = walk-yields target sheet (p .targets .count) (p .targets .at) (sheetOf sheet .targets) ts (sheet-ahead sheet p e .targets) w n

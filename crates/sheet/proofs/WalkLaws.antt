@@ -1,4 +1,4 @@
--- Walking a row that was read, item by item.
+-- Walking segments, or targets, that were read.
 use mathlib.Core.Path.{_≡_, refl, sym, ap, _∙_}
 use mathlib.Core.Bool.{true, false, true≢false}
 use mathlib.Core.List.{List, [], _∷_}

@@ -65,22 +65,22 @@ enum GotTarget {
     Read(Target, usize),
 }
 
-// The place after some segments, or targets, in a row; or why they are refused.
+// The place after some segments or targets, or why they are refused.
 enum Skipped {
     Refused(Refusal),
     To(usize),
 }
 
-// Segments or targets: how many, and the place of the first.
-pub struct Row {
+// Segments, or targets: how many, and the place of the first.
+pub struct Items {
     pub count: usize,
     pub at: usize,
 }
 
 // Where a sheet has its segments and its targets.
 pub struct Places {
-    pub segments: Row,
-    pub targets: Row,
+    pub segments: Items,
+    pub targets: Items,
 }
 
 // A segment of a sheet that was read, and the place after it.
@@ -342,7 +342,7 @@ fn skip_targets(sheet: &[u8], at: usize, count: usize) -> Skipped
 }
 
 // The rest of a sheet, from its target count on.
-fn read_after_segments(sheet: &[u8], at: usize, segments: Row) -> SheetAnswer
+fn read_after_segments(sheet: &[u8], at: usize, segments: Items) -> SheetAnswer
     ensures { λ r.
         ⌜ r ≡ answerIn (placesAfter (now (sheet .entry)) segments (drop at (now (sheet .entry)))) ⌝ }
 {
@@ -356,7 +356,7 @@ fn read_after_segments(sheet: &[u8], at: usize, segments: Row) -> SheetAnswer
                 }
                 SheetAnswer::Read(Places {
                     segments: segments,
-                    targets: Row {
+                    targets: Items {
                         count: count,
                         at: from,
                     },
@@ -379,7 +379,7 @@ pub fn read_sheet(sheet: &[u8]) -> SheetAnswer
         GotNumber::Read(count, from) => match skip_segments(sheet, from, count) {
             Skipped::Refused(cause) => SheetAnswer::Refused(cause),
             Skipped::To(next) => {
-                let segments = Row {
+                let segments = Items {
                     count: count,
                     at: from,
                 };
@@ -459,9 +459,9 @@ pub fn name_of(sheet: &[u8], places: Places, number: usize) -> Span
         (r .at + r .len ≤ length (now (sheet .entry)))
         ⌝ }
 {
-    let row = places.segments;
-    let count = row.count;
-    let mut at = row.at;
+    let segments = places.segments;
+    let count = segments.count;
+    let mut at = segments.at;
     if number == 0 {
         return Span { at: 0, len: 0 };
     }

@@ -1,7 +1,7 @@
 use mathlib.Core.Path.{sym}
 use Prim.Native.Nat.{_≤_}
 use native.Mathlib.Omega.{arith}
-use Rattle.sheet.proofs.ReadLaws.{sheet-rows}
+use Rattle.sheet.proofs.ReadLaws.{sheet-ahead}
 use Rattle.sheet.proofs.FollowerLaws.{Going, name-none, name-above, going-first, going-some, going-on, going-here}
 use borrow.Author.Needs.{needs}
 use Rattle.sheet.proofs.name_of.Statement.{statement}
@@ -17,10 +17,10 @@ returns : tie.Need-returns Inv-loop μ-loop
 returns c = (sym (name-none _ _ (c .if1 .taken)), omega arith)
 
 returns-2 : tie.Need-returns-2 Inv-loop μ-loop
-returns-2 c = let a = c .before .before .before .before in (sym (name-above (a .args .sheet .now) (a .args .places) (sheet-rows _ _ (a .pre)) _ (c .if2 .taken)), omega arith)
+returns-2 c = let a = c .before .before .before .before in (sym (name-above (a .args .sheet .now) (a .args .places) (sheet-ahead _ _ (a .pre)) _ (c .if2 .taken)), omega arith)
 
 loop-holds : tie.Need-loop-holds Inv-loop μ-loop
-loop-holds c = let a = c .before .before .before .before in (omega arith, going-first (a .args .sheet .now) (a .args .places) (sheet-rows _ _ (a .pre)) _ (c .if2 .left))
+loop-holds c = let a = c .before .before .before .before in (omega arith, going-first (a .args .sheet .now) (a .args .places) (sheet-ahead _ _ (a .pre)) _ (c .if2 .left))
 
 segment-at-requires : tie.Need-segment-at-requires Inv-loop μ-loop
 segment-at-requires c κs = going-some _ _ _ _ _ (omega arith) (c .before .loop .inv .1)

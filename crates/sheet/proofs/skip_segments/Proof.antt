@@ -5,7 +5,7 @@ use lib.ListN.{length, drop}
 use Rattle.sheet.specs.Sheet.{segment, repeated}
 use Rattle.sheet.specs.Answers.{ended, segmentSays}
 use Rattle.sheet.proofs.AnswerLaws.{refused, read, read-within}
-use Rattle.sheet.proofs.RowLaws.{ended-none, ended-refused, ended-more}
+use Rattle.sheet.proofs.ItemLaws.{ended-none, ended-refused, ended-more}
 use borrow.Author.Needs.{needs}
 use Rattle.sheet.proofs.skip_segments.Statement.{statement}
 use Rattle.sheet.proofs.skip_segments.Tie as tie

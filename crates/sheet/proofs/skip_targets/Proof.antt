@@ -5,7 +5,7 @@ use lib.ListN.{length, drop}
 use Rattle.sheet.specs.Sheet.{target, repeated}
 use Rattle.sheet.specs.Answers.{ended, targetSays}
 use Rattle.sheet.proofs.AnswerLaws.{refused, read, read-within}
-use Rattle.sheet.proofs.RowLaws.{ended-none, ended-refused, ended-more}
+use Rattle.sheet.proofs.ItemLaws.{ended-none, ended-refused, ended-more}
 use borrow.Author.Needs.{needs}
 use Rattle.sheet.proofs.skip_targets.Statement.{statement}
 use Rattle.sheet.proofs.skip_targets.Tie as tie

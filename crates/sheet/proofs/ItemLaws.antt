@@ -1,4 +1,4 @@
--- Segments, or targets, in a row, one at a time: where the row ends.
+-- Segments, or targets, one after the other: where they end.
 use mathlib.Core.Path.{_≡_, refl, sym, ap, _∙_}
 use mathlib.Core.List.{List, _∷_}
 use Prim.Native.Nat.{ℕ, zero, suc, _-_}
@@ -39,3 +39,9 @@ module _ {B : Type 0} (one : List ℕ → Got B) where
     pub ended-more : {a : A} {next : ℕ} → says ≡ reads a next → ended (repeated one k bs) ≡ ended (repeated one (k - 1) (drop next sheet))
     unfolding _andThen_
     ended-more {a} {next} e = ap ended (by-answer e) ∙ ended-cons (meaning a) (repeated one (k - 1) (drop next sheet))
+
+-- what comes after the items goes by where they end
+pub after-items : {A B : Type 0} (g : Got A) (f : List ℕ → Got B) → (g andThen λ x bs. f bs) ≡ (ended g andThen λ u bs. f bs)
+unfolding _andThen_
+after-items (fails r) f = refl
+after-items (gets x bs) f = refl
