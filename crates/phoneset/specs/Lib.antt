@@ -1,2 +1,3 @@
 -- The root of phoneset's definitions.
 pub mod Phones
+pub mod Words

@@ -17,22 +17,22 @@ pub data Refers (n : ℕ) : List SegmentRead → Type 0 where
   cons : {s : SegmentRead} {ss : List SegmentRead} → s .follower ≤ n → Refers n ss → Refers n (s ∷ ss)
 
 -- what came of the first of two readings
-record Came {A B : Type 0} (g : Got A) (f : A → List ℕ → Got B) (b : B) (r : List ℕ) : Type 0 where
-  value : A
-  rest : List ℕ
-  is : g ≡ gets value rest
-  after : f value rest ≡ gets b r
+pub record Came {A B : Type 0} (g : Got A) (f : A → List ℕ → Got B) (b : B) (r : List ℕ) : Type 0 where
+  pub value : A
+  pub rest : List ℕ
+  pub is : g ≡ gets value rest
+  pub after : f value rest ≡ gets b r
 
-refused-got : {A : Type 0} (c : Refusal) (a : A) (r : List ℕ) → fails c ≡ gets a r → ⊥
+pub refused-got : {A : Type 0} (c : Refusal) (a : A) (r : List ℕ) → fails c ≡ gets a r → ⊥
 refused-got c a r e = let z : _≡_ {A = ℕ} 0 1 = cc in omega arith
 
-came : {A B : Type 0} (g : Got A) (f : A → List ℕ → Got B) (b : B) (r : List ℕ) → (g andThen f) ≡ gets b r → Came g f b r
+pub came : {A B : Type 0} (g : Got A) (f : A → List ℕ → Got B) (b : B) (r : List ℕ) → (g andThen f) ≡ gets b r → Came g f b r
 unfolding _andThen_
 came (fails c) f b r e = absurd (refused-got c b r e)
 came (gets a s) f b r e = record { value = a; rest = s; is = refl; after = e }
 
 -- what came of a reading that a test lets pass
-formed : {A : Type 0} (t : Bool) (a b : A) (r s : List ℕ) → malformedIf t (gets a r) ≡ gets b s → (t ≡ false) × (a ≡ b)
+pub formed : {A : Type 0} (t : Bool) (a b : A) (r s : List ℕ) → malformedIf t (gets a r) ≡ gets b s → (t ≡ false) × (a ≡ b)
 formed true a b r s e = absurd (refused-got BadSheet b s e)
 formed false a b r s e = (refl, cc)
 

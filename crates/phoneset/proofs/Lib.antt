@@ -1,0 +1,2 @@
+-- Laws about phoneset's definitions.
+pub mod WordLaws

@@ -1,0 +1,129 @@
+-- Which bits are a finite float; values by their kind.
+use mathlib.Core.Path.{_≡_, refl, sym, ap, _∙_}
+use mathlib.Core.Bool.{Bool, true, false, cond}
+use mathlib.Core.List.{List}
+use Prim.Native.Nat.{ℕ, zero, suc, _+_, _-_, _/_, _%_, _≤_, _<_}
+use native.Mathlib.Nat.{add-zero}
+use native.Mathlib.Omega.{arith}
+use borrow.Author.Tests.{ne-eqb, lt-ltb, le-ltb}
+use lib.Dec.{ltb, eqb, leb}
+use lib.ListN.{length, drop, getD, length-drop, drop-of-length-le}
+use lib.Seq.{drop-drop}
+use lib.Ieee.{Float, nan, inf, binary32, prec, hid, top, odd, ofFields, ofBits}
+use Rattle.base.specs.Choice.{pick}
+use Rattle.base.specs.Bytes.{littleEndian}
+use Rattle.base.specs.Words.{signed32}
+use Rattle.base.proofs.ByteLaws.{littleEndian-drop}
+use Rattle.refusal.specs.declared.Refusal.the-variants.{BadSheet, NotFinite}
+use Rattle.sheet.specs.Sheet.{fails, gets, malformedIf, isFinite, finite, valueOf, value}
+use Rattle.sheet.specs.Answers.{Says, refuses, reads, Answers, valueSays, floatRead}
+use Rattle.sheet.specs.declared.Value.{Value}
+use Rattle.sheet.specs.declared.Value.the-variants.{Int, Float as FloatValue, Absent}
+use Rattle.sheet.specs.declared.GotValue.the-variants as answer
+use Rattle.sheet.proofs.AnswerLaws.{from-place, refused, read, same-reading, test-fails}
+
+-- ---- finite floats
+
+odd-finite : (d : ℕ) (s : Bool) (q k l : ℕ) → isFinite (odd d s q k l) ≡ true
+unfolding isFinite odd
+odd-finite d s zero k l = refl
+odd-finite d s (suc q) k l = refl
+
+fields-finite : (s : Bool) (x t : ℕ) → (x ≡ 255 → ⊥) → isFinite (ofFields binary32 s x t) ≡ true
+unfolding ofFields
+fields-finite s zero t n = odd-finite (prec binary32) s t 0 149
+fields-finite s (suc x) t n = let e = ne-eqb (suc x) 255 n in rw e (odd-finite (prec binary32) s (hid binary32 + t) x 149)
+
+fields-infinite : (s : Bool) (t : ℕ) → isFinite (ofFields binary32 s 255 t) ≡ false
+unfolding ofFields isFinite
+fields-infinite s t = go (eqb t 0)
+  where
+    go : (z : Bool) → isFinite (cond z (inf s) nan) ≡ false
+    go true = refl
+    go false = refl
+
+module _ (word : ℕ) where
+  pub bits-finite : word % 2147483648 < 2139095040 → isFinite (ofBits binary32 word) ≡ true
+  unfolding ofBits
+  bits-finite h = fields-finite (leb (top binary32) word) (word % 2147483648 / 8388608) (word % 8388608) (λ e. omega arith)
+
+  pub bits-infinite : 2139095040 ≤ word % 2147483648 → isFinite (ofBits binary32 word) ≡ false
+  unfolding ofBits
+  bits-infinite h =
+      let e : word % 2147483648 / 8388608 ≡ 255 = omega arith in
+      ap (λ (x : ℕ). isFinite (ofFields binary32 (leb (top binary32) word) x (word % 8388608))) e ∙ fields-infinite (leb (top binary32) word) (word % 8388608)
+
+-- ---- values
+
+unknown : (k : ℕ) (bs : List ℕ) → 2 < k → valueOf k bs ≡ fails BadSheet
+unfolding valueOf
+unknown zero bs h = absurd (omega arith)
+unknown (suc zero) bs h = absurd (omega arith)
+unknown (suc (suc zero)) bs h = absurd (omega arith)
+unknown (suc (suc (suc k))) bs h = refl
+
+cut : (k : ℕ) (bs : List ℕ) → k < 2 → length bs < 4 → valueOf k bs ≡ fails BadSheet
+unfolding valueOf
+cut zero bs h l = let t = lt-ltb (length bs) 4 l in rw t
+cut (suc zero) bs h l = let t = lt-ltb (length bs) 4 l in rw t
+cut (suc (suc k)) bs h l = absurd (omega arith)
+
+-- a float that was read is a float, or not finite
+float-read : {sheet : List ℕ} (x : Float) (next : ℕ) → next ≤ length sheet
+    → Answers sheet (λ (v : Value). v) (λ v. Unit) (valueSays (pick (isFinite x) (answer.Read (FloatValue x) next) answer.NotFinite)) (finite x (drop next sheet))
+unfolding finite
+float-read {sheet} x next h = go (isFinite x)
+  where
+    go : (t : Bool) → Answers sheet (λ (v : Value). v) (λ v. Unit) (valueSays (pick t (answer.Read (FloatValue x) next) answer.NotFinite)) (pick t (gets (FloatValue x) (drop next sheet)) (fails NotFinite))
+    go true = read refl h tt
+    go false = refused refl
+
+-- what is answered at a place
+module _ (sheet : List ℕ) (at : ℕ) where
+  abbrev pub Is : Says Value → Type 0
+  Is says = Answers sheet (λ v. v) (λ v. Unit) says (value (drop at sheet))
+
+  pub value-end : length sheet ≤ at → Is (refuses BadSheet)
+  unfolding value
+  value-end h = refused (ap value (drop-of-length-le sheet h))
+
+  -- the kind, and what follows it
+  abbrev kind : ℕ
+  kind = getD sheet at 0
+
+  abbrev rest : List ℕ
+  rest = drop (at + 1) sheet
+
+  module _ (h : at < length sheet) where
+    by-kind : (k : ℕ) → kind ≡ k → value (drop at sheet) ≡ valueOf k rest
+    unfolding value
+    by-kind k e = ap value (from-place sheet at h) ∙ ap (λ (n : ℕ). valueOf n rest) e
+
+    pub value-absent : kind ≡ 2 → Is (reads Absent (at + 1))
+    unfolding valueOf
+    value-absent e = read (by-kind 2 e) (omega arith) tt
+
+    pub value-unknown : 2 < kind → Is (refuses BadSheet)
+    value-unknown l = refused (by-kind kind refl ∙ unknown kind rest l)
+
+    pub value-cut : kind < 2 → length sheet - (at + 1) < 4 → Is (refuses BadSheet)
+    value-cut l s = refused (by-kind kind refl ∙ cut kind rest l (rw length-drop s))
+
+    module _ (s : 4 ≤ length sheet - (at + 1)) (word : ℕ) (w : word ≡ littleEndian 4 sheet (at + 1)) where
+      whole : ltb (length rest) 4 ≡ false
+      whole = le-ltb (length rest) 4 (rw length-drop s)
+
+      word-is : littleEndian 4 rest 0 ≡ word
+      word-is = littleEndian-drop 4 sheet (at + 1) 0 ∙ rw add-zero (sym w)
+
+      pub value-int : kind ≡ 0 → Is (reads (Int (signed32 word)) (at + 1 + 4))
+      unfolding valueOf
+      value-int e =
+          same-reading (by-kind 0 e) (test-fails whole (read (rw word-is (ap (gets (Int (signed32 word))) (drop-drop 4 (at + 1) sheet))) (omega arith) tt))
+
+      pub value-float : kind ≡ 1 → Is (valueSays (floatRead word (at + 1 + 4)))
+      unfolding valueOf
+      value-float e =
+          same-reading
+          (by-kind 1 e ∙ ap (λ (n : ℕ). malformedIf (ltb (length rest) 4) (finite (ofBits binary32 n) (drop 4 rest))) word-is)
+          (test-fails whole (same-reading (ap (finite (ofBits binary32 word)) (drop-drop 4 (at + 1) sheet)) (float-read (ofBits binary32 word) (at + 1 + 4) (omega arith))))
