@@ -101,11 +101,11 @@ module _ (file : List ℕ) (d : DiphoneVoice) (o : IsOpen file d) where
   unfolding indexFits
   fits-by n h = let k = entries-count file d o in rw k (le-leb (d .count) (n / 8) h)
 
-  fits-not : (n : ℕ) → n / 8 < d .count → indexFits (voiceOf file) n ≡ false
+  pub fits-not : (n : ℕ) → n / 8 < d .count → indexFits (voiceOf file) n ≡ false
   unfolding indexFits
   fits-not n h = let k = entries-count file d o in rw k (lt-leb (d .count) (n / 8) h)
 
-  by-fit : (n : ℕ) (t : Bool) → indexFits (voiceOf file) n ≡ t → openRefusal file n ≡ pick t none (some ShortBuffer)
+  pub by-fit : (n : ℕ) (t : Bool) → indexFits (voiceOf file) n ≡ t → openRefusal file n ≡ pick t none (some ShortBuffer)
   unfolding openRefusal
   by-fit n t e = rw (o .fit, e)
 

@@ -41,8 +41,7 @@ fn check_tables(file: &[u8]) -> Opened
         r ≡ openings.answerOpening (placesOf (now (file .entry))) (firstFailing (openings.tableChecks (now (file .entry))))
         ⌝ }
 {
-    let header = container::span_of(voice::sections::find_header(file));
-    if !voice::header::is_good(voice::sections::bytes_at(file, header)) {
+    if !voice::header::is_good(voice::sections::header_bytes(file)) {
         return Opened::Refused(Refusal::BadHeader);
     }
     let d = voice::sections::places_of(file);

@@ -127,15 +127,25 @@ pub fn bytes_at<'a>(file: &'a [u8], part: Span) -> &'a [u8]
     &file[from..end]
 }
 
+// The header's bytes; none where the section is missing.
+pub fn header_bytes<'a>(file: &'a [u8]) -> &'a [u8]
+    ensures { λ r.
+        ⌜
+        now r ≡
+        parts.bytesAt (now (file .entry)) (parts.spanOf (parts.find (ascii "sts.header") (parts.sections (now (file .entry)) .list)))
+        ⌝ }
+{
+    bytes_at(file, container::span_of(find_header(file)))
+}
+
 // Where the header, the tables and the index stand.
 pub fn places_of(file: &[u8]) -> DiphoneVoice
     requires { ⌜ goodHeader (parts.bytesAt (now file) (parts.spanOf (parts.find (ascii "sts.header") (parts.sections (now file) .list)))) ≡ true ⌝ }
     ensures { λ r. ⌜ r ≡ voices.placesOf (now (file .entry)) ⌝ }
 {
-    let header = container::span_of(find_header(file));
     let index = container::span_of(find_index(file));
     DiphoneVoice {
-        header: super::header::header_of(bytes_at(file, header)),
+        header: super::header::header_of(header_bytes(file)),
         lpc: container::span_of(find_lpc(file)),
         offsets: container::span_of(find_offsets(file)),
         sizes: find_sizes(file),

@@ -1,0 +1,2 @@
+-- Laws for the functions that C calls.
+pub mod RecordLaws

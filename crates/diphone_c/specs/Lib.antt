@@ -1,0 +1,2 @@
+-- The root of diphone_c's definitions.
+pub mod Open
