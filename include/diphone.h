@@ -1,0 +1,57 @@
+/* The diphone voice, for programs in C. Link libdiphone_c.a.
+ *
+ * Every function takes numbers and byte buffers alone, ends for every input, allocates nothing and
+ * keeps nothing between calls. A buffer is a pointer and a number of bytes; with 0 bytes the pointer
+ * may be null. No alignment is asked for. Buffers must not overlap. Numbers of several bytes are
+ * little-endian. A function that refuses leaves every buffer as it was.
+ */
+#ifndef DIPHONE_H
+#define DIPHONE_H
+
+#include <stddef.h>
+#include <stdint.h>
+
+#ifdef __cplusplus
+#define DIPHONE_RESTRICT
+extern "C" {
+#else
+#define DIPHONE_RESTRICT restrict
+#endif
+
+/* Refusals. */
+enum {
+    DIPHONE_BAD_MAGIC = 1,       /* the first 8 bytes are not FLRSDAT and 0x01 */
+    DIPHONE_SECTION_CUT = 2,     /* a section is cut short, or its name is not UTF-8 */
+    DIPHONE_NOT_DIPHONE = 3,     /* the voice has another back end */
+    DIPHONE_MISSING_SECTION = 4, /* a needed section is missing */
+    DIPHONE_BAD_HEADER = 5,      /* the header is cut short or outside its limits */
+    DIPHONE_BAD_TABLES = 6,      /* the voice's tables do not fit each other */
+    DIPHONE_BAD_INDEX = 7,       /* the index is cut short, empty, has a name that is not UTF-8 or
+                                    stands twice, or an entry that ends past the frames */
+    DIPHONE_SHORT_BUFFER = 13    /* a buffer is shorter than stated */
+};
+
+/* The record of a voice: the 40 bytes of its section sts.header as stored, then two numbers of
+ * 8 bytes: how many entries its index has, and how many bytes the decode buffer of a call needs. */
+#define DIPHONE_VOICE_BYTES 56
+
+/* How many bytes of the index buffer an entry takes. */
+#define DIPHONE_INDEX_ENTRY_BYTES 8
+
+/* Opens a voice file.
+ *
+ * Takes:   voice, the file's bytes; index, 8 bytes for each entry of the voice's index or more;
+ *          record, DIPHONE_VOICE_BYTES or more.
+ * Answers: 0; or 1 to 7 for the voice file, in this order; or 13 if index or record is too short.
+ * Leaves:  on 0, in index the sorted index (for each entry, in the order of the names' bytes, the
+ *          file offset of its name-length byte, 8 bytes), in record the voice's record; bytes past
+ *          these as they were. */
+uint32_t diphone_open(const uint8_t *DIPHONE_RESTRICT voice, size_t voice_len,
+                      uint8_t *DIPHONE_RESTRICT index, size_t index_len,
+                      uint8_t *DIPHONE_RESTRICT record, size_t record_len);
+
+#ifdef __cplusplus
+}
+#endif
+
+#endif
