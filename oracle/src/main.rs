@@ -9,6 +9,8 @@ mod args;
 mod call;
 #[cfg(feature = "probe")]
 mod codecs;
+#[cfg(feature = "diphone_c")]
+mod diphone_c;
 mod examples;
 #[cfg(feature = "probe")]
 mod float_inputs;
@@ -16,6 +18,8 @@ mod float_inputs;
 mod floats;
 mod gen;
 mod good;
+#[cfg(feature = "diphone_c")]
+mod openings;
 #[cfg(feature = "probe")]
 mod probe;
 mod reference;
@@ -33,7 +37,8 @@ const USAGE: &str = "usage:
   oracle self [--seed N] [--count N]
   oracle statements [--seed N] [--from N] [--count N] --out FILE
   oracle floats [--seed N] [--count N] [--all]
-  oracle codecs [--seed N] [--count N]";
+  oracle codecs [--seed N] [--count N]
+  oracle openings [--seed N] [--from N] [--count N]";
 
 fn main() -> ExitCode {
     let words: Vec<String> = std::env::args().skip(1).collect();
@@ -53,6 +58,10 @@ fn main() -> ExitCode {
         "codecs" => codecs::run(&args),
         #[cfg(not(feature = "probe"))]
         "floats" | "codecs" => return usage("built without the feature probe"),
+        #[cfg(feature = "diphone_c")]
+        "openings" => openings::run(&args),
+        #[cfg(not(feature = "diphone_c"))]
+        "openings" => return usage("built without the feature diphone_c"),
         other => return usage(&format!("unknown command {other}")),
     };
     match agreed {
