@@ -2,7 +2,9 @@
 pub mod trim;
 
 ghost use mathlib.Core.Path.{_≡_};
+ghost use Prim.Native.Nat.{_≤_};
 ghost use lib.Dec.{eqb};
+ghost use lib.ListN.{length, drop};
 ghost use Rattle.base.specs.Choice.{pick};
 ghost use Rattle.text.specs.Names as names;
 ghost use Rattle.text.specs.Utf8 as utf8s;
@@ -77,12 +79,30 @@ fn complete(w: Wait) -> bool
     }
 }
 
+// Where the first byte that is not ASCII stands; the end where all are.
+fn ascii_end(s: &[u8]) -> usize
+    ensures { λ r.
+        ⌜
+        (r ≤ length (now (s .entry))) ×
+        (utf8s.utf8 (drop r (now (s .entry))) ≡ utf8s.utf8 (now (s .entry)))
+        ⌝ }
+{
+    let mut i = 0;
+    while i < s.len() {
+        if s[i] >= 0x80 {
+            return i;
+        }
+        i += 1;
+    }
+    i
+}
+
 // Whether the bytes are UTF-8.
 pub fn utf8(s: &[u8]) -> bool
     ensures { λ r. ⌜ r ≡ utf8s.utf8 (now (s .entry)) ⌝ }
 {
     let mut w = Wait::Next(0, 0, 0);
-    let mut i = 0;
+    let mut i = ascii_end(s);
     while i < s.len() {
         w = step(w, s[i]);
         i += 1;

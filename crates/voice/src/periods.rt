@@ -83,9 +83,12 @@ fn longest(file: &[u8], d: DiphoneVoice) -> usize
 {
     let frames = d.header.frames as usize;
     let mut most = 0;
+    let mut begin = offset(file, d, 0);
     let mut p = 0;
     while p < frames {
-        most = larger(gap(file, d, p), most);
+        let end = offset(file, d, p + 1);
+        most = larger(end - begin, most);
+        begin = end;
         p += 1;
     }
     most

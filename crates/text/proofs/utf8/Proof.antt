@@ -1,21 +1,25 @@
 use borrow.Author.Needs.{needs}
 use native.Mathlib.Omega.{arith}
+use mathlib.Core.Path.{_≡_, sym, ap, _∙_}
 use Prim.Native.Nat.{_-_, _≤_}
-use mathlib.Core.Path.{_≡_, refl, sym, ap, _∙_}
 use lib.ListN.{length, drop}
-use Rattle.text.specs.Utf8.{waits, utf8, complete}
+use Rattle.text.specs.Utf8.{waits, complete, utf8}
 use Rattle.text.proofs.Utf8Laws.{waits-more, waits-done}
 use Rattle.text.proofs.utf8.Statement.{statement}
 use Rattle.text.proofs.utf8.Tie as tie
 
 abbrev Inv-loop : tie.InvT-loop
-Inv-loop s w₀ i₀ w i = (i ≤ length s) × (waits w (drop i s) ≡ waits w₀ s)
+Inv-loop s w₀ i₀ w i = (i ≤ length s) × (complete (waits w (drop i s)) ≡ utf8 s)
 
 abbrev μ-loop : tie.MeasureT-loop
 μ-loop s w₀ i₀ w i = length s - i
 
+ascii-end-requires : tie.Need-ascii-end-requires Inv-loop μ-loop
+ascii-end-requires c κs = search needs
+
 loop-holds : tie.Need-loop-holds Inv-loop μ-loop
-loop-holds c = (omega arith, refl)
+unfolding utf8
+loop-holds c = c .ascii-end .ensures
 
 shared-slice-read-step : tie.Need-shared-slice-read-step Inv-loop μ-loop
 shared-slice-read-step c = search needs
@@ -32,18 +36,17 @@ loop-less c = search needs
 loop-again : tie.Need-loop-again Inv-loop μ-loop
 loop-again c =
     let l = c .before .before .before .loop in
-    let s = c .before .before .before .before .before .args .s .now in
-    (omega arith, rw (c .step .ensures) (sym (waits-more (l .w) s (l .i) (omega arith)) ∙ l .inv .1))
+    let s = c .before .before .before .before .before .before .args .s .now in
+    (omega arith, rw (c .step .ensures) (sym (ap complete (waits-more (l .w) s (l .i) (omega arith))) ∙ l .inv .1))
 
 complete-requires : tie.Need-complete-requires Inv-loop μ-loop
 complete-requires c κs = search needs
 
 returns : tie.Need-returns Inv-loop μ-loop
-unfolding utf8
 returns c =
     let l = c .before .before .loop in
-    let s = c .before .before .before .before .args .s .now in
-    c .complete .ensures ∙ ap complete (sym (waits-done (l .w) s (l .i) (omega arith)) ∙ l .inv .1)
+    let s = c .before .before .before .before .before .args .s .now in
+    c .complete .ensures ∙ sym (ap complete (waits-done (l .w) s (l .i) (omega arith))) ∙ l .inv .1
 
 pub utf8-spec : {M : Type 1} → statement M
 utf8-spec =
@@ -51,6 +54,7 @@ utf8-spec =
     (tie.spec
     Inv-loop
     μ-loop
+    ascii-end-requires
     loop-holds
     shared-slice-read-step
     step-requires
