@@ -36,8 +36,9 @@ fn main() {
     }
     write(&out.join("root.rs"), &root);
 
-    for (feature, name) in [("PROBE", "probe"), ("DIPHONE_C", "diphone_c")] {
-        if env::var_os(format!("CARGO_FEATURE_{feature}")).is_some() {
+    for name in ["diphone_c", "probe", "probe_voice"] {
+        let feature = format!("CARGO_FEATURE_{}", name.to_uppercase());
+        if env::var_os(feature).is_some() {
             link(&manifest, name);
         }
     }

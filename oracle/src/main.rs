@@ -9,7 +9,7 @@ mod args;
 mod call;
 #[cfg(feature = "probe")]
 mod codecs;
-#[cfg(feature = "diphone_c")]
+#[cfg(all(feature = "diphone_c", feature = "probe_voice"))]
 mod diphone_c;
 mod examples;
 #[cfg(feature = "probe")]
@@ -18,10 +18,12 @@ mod float_inputs;
 mod floats;
 mod gen;
 mod good;
-#[cfg(feature = "diphone_c")]
+#[cfg(all(feature = "diphone_c", feature = "probe_voice"))]
 mod openings;
 #[cfg(feature = "probe")]
 mod probe;
+#[cfg(feature = "probe_voice")]
+mod probe_voice;
 mod reference;
 mod refusal;
 mod report;
@@ -58,10 +60,10 @@ fn main() -> ExitCode {
         "codecs" => codecs::run(&args),
         #[cfg(not(feature = "probe"))]
         "floats" | "codecs" => return usage("built without the feature probe"),
-        #[cfg(feature = "diphone_c")]
+        #[cfg(all(feature = "diphone_c", feature = "probe_voice"))]
         "openings" => openings::run(&args),
-        #[cfg(not(feature = "diphone_c"))]
-        "openings" => return usage("built without the feature diphone_c"),
+        #[cfg(not(all(feature = "diphone_c", feature = "probe_voice")))]
+        "openings" => return usage("built without the features diphone_c and probe_voice"),
         other => return usage(&format!("unknown command {other}")),
     };
     match agreed {

@@ -8,6 +8,7 @@ use crate::diphone_c::{self, VOICE_BYTES};
 use crate::gen::damaged_voices::{self, InRust};
 use crate::gen::voices::{self, EntrySpec, Extent, VoiceSpec};
 use crate::reference::{self, Parsed};
+use crate::probe_voice;
 use crate::refusal::{Refusal, REFUSALS};
 use crate::report::Report;
 use crate::rng::Rng;
@@ -19,6 +20,9 @@ use std::time::Instant;
 const CASES: u64 = 2_000;
 const DAMAGED_VOICES: u64 = 12;
 
+/// Periods of a voice that are read one by one.
+const PERIODS: usize = 40;
+
 const SHORT_BUFFER: usize = 13;
 const GUARD: u8 = 0xA5;
 
@@ -26,6 +30,7 @@ const GUARD: u8 = 0xA5;
 struct Counts {
     opened: u64,
     entries: u64,
+    /// Periods read one by one.
     periods: u64,
     /// By the number answered; 0 counts the voices opened.
     answers: [u64; SHORT_BUFFER + 1],
@@ -109,7 +114,8 @@ fn untouched(
 fn opened(rng: &mut Rng, file: &[u8], voice: &Voice, report: &mut Report, counts: &mut Counts) {
     counts.opened += 1;
     counts.entries += voice.index.len() as u64;
-    counts.periods += voice.frames() as u64;
+    let step = voice.frames().div_ceil(PERIODS);
+    counts.periods += voice.frames().div_ceil(step) as u64;
     let room = 8 * voice.index.len();
     untouched(file, [room - 1, VOICE_BYTES], SHORT_BUFFER, report, counts);
     untouched(file, [room, VOICE_BYTES - 1], SHORT_BUFFER, report, counts);
@@ -142,7 +148,8 @@ fn expected(voice: &Voice, index: &[u8], record: &[u8]) -> (Vec<u8>, Vec<u8>) {
     (sorted, filled)
 }
 
-/// The entries at the offsets of the index are the Rust's, in its order.
+/// The entries at the offsets of the index are the Rust's, in its order, and
+/// so are some of the periods: samples, residual and row.
 fn beside_rust(
     file: &[u8],
     voice: &Voice,
@@ -157,6 +164,32 @@ fn beside_rust(
         let stored = entry_at(file, at);
         report.equal(entry, &stored, || "entry in sorted order".to_string());
     }
+    // Each reading opens the file again, so of a long voice only some are read.
+    let step = voice.frames().div_ceil(PERIODS);
+    for period in (0..voice.frames()).step_by(step) {
+        beside_period(file, rust, period, report);
+    }
+    let past = probe_voice::period_samples(file, voice.frames());
+    report.equal(&0, &past, || "past the frames".to_string());
+}
+
+fn beside_period(file: &[u8], rust: &DiphoneVoice, period: usize, report: &mut Report) {
+    let residual = access::period_residual(rust, period);
+    let row: Vec<u8> = access::period_coefficients(rust, period)
+        .iter()
+        .flat_map(|value| value.to_le_bytes())
+        .collect();
+    let samples = access::period_samples(rust, period);
+    let ours = probe_voice::period_samples(file, period);
+    report.equal(&samples, &ours, || format!("samples of period {period}"));
+    let mut room = vec![0; residual.len()];
+    let length = probe_voice::residual(file, period, &mut room);
+    report.check(length == residual.len() && room == residual, || {
+        format!("residual of period {period}")
+    });
+    let mut room = vec![0; row.len()];
+    let length = probe_voice::row(file, period, &mut room);
+    report.check(length == row.len() && room == row, || format!("row of period {period}"));
 }
 
 fn entry_at(file: &[u8], at: usize) -> access::Entry {
@@ -228,7 +261,7 @@ fn letter(i: usize) -> char {
 fn print(seed: u64, cases: u64, report: &Report, counts: &Counts) {
     println!("oracle openings: seed {seed}, {cases} good voices");
     println!(
-        "  opened: {} ({} entries, {} periods)",
+        "  opened: {} ({} entries, {} periods read)",
         counts.opened, counts.entries, counts.periods
     );
     println!("  answers by number: {}", numbered(&counts.answers));

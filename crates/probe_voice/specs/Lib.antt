@@ -1,0 +1,1 @@
+-- The root of probe_voice's definitions: there are none.
