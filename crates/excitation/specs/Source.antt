@@ -1,4 +1,5 @@
 -- Document 01, 'Selecting and marking': the source of a period, and the window it is put into.
+use mathlib.Core.Path.{_≡_}
 use mathlib.Core.List.{List, [], _++_}
 use Prim.Native.Nat.{ℕ, _-_, _/_}
 use lib.Dec.{ltb}
@@ -16,6 +17,10 @@ use Rattle.voice.specs.Periods.{samplesOf, residualOf}
 unfoldable pub decodedBy : Codec → List ℕ → List ℕ
 decodedBy Ulaw bs = []
 decodedBy G721 bs = decoded bs
+
+-- the front of a decode buffer holds a period's bytes decoded, if its codec decodes any
+abbrev pub Holds : Codec → List ℕ → List ℕ → Type 0
+Holds codec buffer bs = take (length (decodedBy codec bs)) buffer ≡ decodedBy codec bs
 
 -- 'The source is a part of either the decoded buffer or the voice's residual, after eight lead-in samples (all, if fewer) for G.721'
 unfoldable pub sourceBy : Codec → List ℕ → List ℕ
