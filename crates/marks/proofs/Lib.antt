@@ -2,3 +2,4 @@
 pub mod MarkLaws
 pub mod CountLaws
 pub mod LimitLaws
+pub mod FiniteLaws

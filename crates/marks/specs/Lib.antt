@@ -1,3 +1,4 @@
 -- The root of marks' definitions.
 pub mod PitchMarks
+pub mod Walking
 pub mod NaturalMarks

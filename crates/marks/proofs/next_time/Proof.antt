@@ -1,0 +1,18 @@
+use lib.Ieee.{ofBits}
+use Rattle.marks.specs.PitchMarks.{nextTime}
+use borrow.Author.Needs.{needs}
+use Rattle.marks.proofs.next_time.Statement.{statement}
+use Rattle.marks.proofs.next_time.Tie as tie
+use Rattle.marks.proofs.next_time.Reads as reads
+use Rattle.marks.proofs.next_time.Lts as lts
+use Rattle.marks.proofs.f0_at.Reads as f0-at-reads
+
+f0-at-requires : tie.Need-f0-at-requires
+f0-at-requires c κs = search needs
+
+returns : tie.Need-returns
+unfolding nextTime ofBits
+returns c = simp (c .before .f0-at .ensures)
+
+pub next-time-spec : {M : Type 1} → statement M
+next-time-spec = tie.close (tie.spec f0-at-requires returns)
