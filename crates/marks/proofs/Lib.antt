@@ -3,3 +3,4 @@ pub mod MarkLaws
 pub mod CountLaws
 pub mod LimitLaws
 pub mod FiniteLaws
+pub mod WalkLaws

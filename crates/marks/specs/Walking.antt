@@ -4,19 +4,27 @@ use mathlib.Core.Bool.{Bool, true, false, _&&_}
 use mathlib.Core.List.{List, [], _∷_}
 use mathlib.Core.Option.{Option, none, some}
 use Prim.Native.Nat.{ℕ, _+_, _-_, _≤_}
+use lib.Dec.{ltb, leb}
 use lib.IntN.{pos}
 use lib.ListN.{drop}
-use lib.Ieee.{Float, fin, lt, ne}
+use lib.Ieee.{Float, fin, binary64, lt, ne, ofInt}
 use Rattle.base.specs.Choice.{pick}
 use Rattle.refusal.specs.declared.Refusal.{Refusal}
-use Rattle.refusal.specs.declared.Refusal.the-variants.{BadSlope}
+use Rattle.refusal.specs.declared.Refusal.the-variants.{BadSlope, PastLimit, TooManyMarks}
 use Rattle.sheet.specs.declared.Target.{Target}
 use Rattle.sheet.specs.Sheet.{Got, fails, gets, target, repeated, isFinite}
 use Rattle.sheet.specs.Places.{isRead}
+use Rattle.sheet.specs.declared.Places.{Places}
+use Rattle.units.specs.Units.{limit}
 use Rattle.marks.specs.declared.Walk.{Walk}
 use Rattle.marks.specs.declared.Aimed.{Aimed}
-use Rattle.marks.specs.declared.Aimed.the-variants.{Refused, To}
-use Rattle.marks.specs.PitchMarks.{Made, Contour, Climb, Stage, goesOn, climb, ends, slopeOf, stageAfter, thenMarks, marksFrom}
+use Rattle.marks.specs.declared.Aimed.the-variants as aim
+use Rattle.marks.specs.declared.Settled.{Settled}
+use Rattle.marks.specs.declared.Settled.the-variants as settled
+use Rattle.marks.specs.declared.Event.{Event}
+use Rattle.marks.specs.declared.Event.the-variants.{Mark, Refused, Done}
+use Rattle.marks.specs.declared.Step.{Step}
+use Rattle.marks.specs.PitchMarks.{Made, Contour, Climb, Stage, mostMarks, goesOn, nextTime, markAt, climb, ends, slopeOf, stageAfter, thenMarks, marksFrom}
 
 -- ---- where the walk stands
 
@@ -53,6 +61,31 @@ targetsAhead sheet w = repeated target (w .targets) (drop (w .at) sheet)
 unfoldable pub coming : List ℕ → Walk → Made
 coming sheet w = comingTo w (readTargets (targetsAhead sheet w))
 
+-- no mark more, with a refusal or without
+abbrev pub stops : Option Refusal → Made
+stops r = record { refusal = r; marks = [] }
+
+-- every target ahead is read
+abbrev pub Reads : List ℕ → Walk → Type 0
+Reads sheet w = isRead (targetsAhead sheet w) ≡ true
+
+-- before the first target
+abbrev pub freshWalk : Places → ℕ → Walk
+freshWalk p rate =
+    record {
+      rate = ofInt binary64 (pos rate);
+      time = fin false 0 (pos 0);
+      from = fin false 0 (pos 0);
+      base = fin false 0 (pos 0);
+      slope = fin false 0 (pos 0);
+      position = fin false 0 (pos 0);
+      f0 = fin false 15 (pos 3);
+      climbs = false;
+      left = mostMarks;
+      at = p .targets .at;
+      targets = p .targets .count;
+    }
+
 -- ---- on to a target
 
 -- the walk goes to a target at a position, with an f0; the sheet goes on at `next`
@@ -80,5 +113,67 @@ unfoldable pub aimed : Walk → Float → Float → ℕ → Aimed
 aimed w position f0 next =
     let slope = slopeOf (stageOf w) position f0 in
     pick (isAhead w position)
-    (pick (isFinite slope) (To (moved w position f0 next true slope)) (Refused BadSlope))
-    (To (moved w position f0 next false (fin false 0 (pos 0))))
+    (pick (isFinite slope) (aim.To (moved w position f0 next true slope)) (aim.Refused BadSlope))
+    (aim.To (moved w position f0 next false (fin false 0 (pos 0))))
+
+-- the walk goes to the next target of the sheet: the same is still to come
+abbrev pub Advanced : List ℕ → Walk → Aimed → Type 0
+Advanced sheet w (aim.To n) = (coming sheet n ≡ coming sheet w) × Reads sheet n × (n .left ≡ w .left) × (n .targets + 1 ≡ w .targets)
+Advanced sheet w (aim.Refused r) = coming sheet w ≡ stops (some r)
+
+-- the walk goes to the target on the way to which the next mark is
+abbrev pub IsSettled : List ℕ → Walk → Settled → Type 0
+IsSettled sheet w (settled.OnWay n) = (coming sheet n ≡ coming sheet w) × Reads sheet n × (n .left ≡ w .left) × (onWay n ≡ true)
+IsSettled sheet w (settled.Refused r) = coming sheet w ≡ stops (some r)
+IsSettled sheet w settled.Done = coming sheet w ≡ stops none
+
+-- ---- one mark
+
+-- the walk at a later time, with one mark made
+abbrev pub later : Walk → Float → Walk
+later w time =
+    record {
+      rate = w .rate;
+      time = time;
+      from = w .from;
+      base = w .base;
+      slope = w .slope;
+      position = w .position;
+      f0 = w .f0;
+      climbs = w .climbs;
+      left = w .left - 1;
+      at = w .at;
+      targets = w .targets;
+    }
+
+-- 'count, mark': on the way to a target
+unfoldable pub marked : Walk → Step
+marked w =
+    let time = nextTime (contourOf w) (w .time) in
+    let m = markAt (contourOf w) time in
+    pick (ltb 0 (w .left))
+    (pick (leb m limit) (record { event = Mark m; walk = later w time }) (record { event = Refused PastLimit; walk = w }))
+    (record { event = Refused TooManyMarks; walk = w })
+
+-- what an event begins, with what comes after it
+abbrev pub beginning : Event → Made → Made
+beginning (Mark m) rest = record { refusal = rest .refusal; marks = m ∷ rest .marks }
+beginning (Refused r) rest = stops (some r)
+beginning Done rest = stops none
+
+abbrev pub marksIn : Event → ℕ
+marksIn (Mark m) = 1
+marksIn (Refused r) = 0
+marksIn Done = 0
+
+abbrev pub markIn : Event → ℕ
+markIn (Mark m) = m
+markIn (Refused r) = 0
+markIn Done = 0
+
+-- a step gives the first of what is still to come, and the walk from where the rest comes
+pub record Steps (sheet : List ℕ) (w : Walk) (s : Step) : Type 0 where
+  pub is : coming sheet w ≡ beginning (s .event) (coming sheet (s .walk))
+  pub ahead : Reads sheet (s .walk)
+  pub counted : s .walk .left + marksIn (s .event) ≡ w .left
+  pub low : markIn (s .event) ≤ limit

@@ -1,27 +1,49 @@
 // Pitch marks: where each output period ends, in samples.
 ghost use mathlib.Core.Path.{_≡_};
+ghost use mathlib.Core.Bool.{true, false};
 ghost use Prim.Native.Nat.{_+_, _≤_, _<_};
 ghost use Rattle.sheet.specs.Sheet as sheets;
 ghost use Rattle.marks.specs.PitchMarks as pitch;
 ghost use Rattle.marks.specs.Walking as walking;
-ghost use Rattle.marks.specs.Walking.{contourOf, stageOf, onWay, isAhead};
+ghost use Rattle.marks.specs.Walking.{contourOf, stageOf, onWay, isAhead, Reads};
 use refusal::Refusal;
+use sheet::Places;
 
 // Where the making of pitch marks stands. The pitch goes from `base` at the time `from` by `slope`,
 // in Hz per second, to the target at `position`, whose pitch is `f0`; marks are made on the way if
 // `climbs`. `left` marks are still allowed; `targets` more targets stand in the sheet from `at` on.
-pub struct Walk {
-    pub rate: f64,
-    pub time: f64,
-    pub from: f64,
-    pub base: f64,
-    pub slope: f64,
-    pub position: f64,
-    pub f0: f64,
-    pub climbs: bool,
-    pub left: usize,
-    pub at: usize,
-    pub targets: usize,
+struct Walk {
+    rate: f64,
+    time: f64,
+    from: f64,
+    base: f64,
+    slope: f64,
+    position: f64,
+    f0: f64,
+    climbs: bool,
+    left: usize,
+    at: usize,
+    targets: usize,
+}
+
+// What comes next: a mark, the refusal that ends the marks, or no mark more.
+enum Event {
+    Mark(usize),
+    Refused(Refusal),
+    Done,
+}
+
+// What came next, and the walk after it.
+struct Step {
+    event: Event,
+    walk: Walk,
+}
+
+// The walk with the next mark on its way, or how the marks end.
+enum Settled {
+    OnWay(Walk),
+    Refused(Refusal),
+    Done,
 }
 
 // The walk on the way to a target, or why it is refused.
@@ -132,4 +154,121 @@ fn aim(w: Walk, position: f64, f0: f64, next: usize) -> Aimed
         return Aimed::Refused(Refusal::BadSlope);
     }
     Aimed::To(moved(w, position, f0, next, false, 0.0))
+}
+
+// On to the next target of the sheet.
+fn advance(sheet: &[u8], w: Walk) -> Aimed
+    requires { ⌜ Reads (now sheet) w × (0 < w .targets) × (onWay w ≡ false) ⌝ }
+    ensures { λ r. ⌜ walking.Advanced (now (sheet .entry)) w r ⌝ }
+{
+    let step = sheet::target_at(sheet, w.at);
+    let target = step.target;
+    let pos = target.pos;
+    let f0 = target.f0;
+    aim(
+        w,
+        std::num::f32_to_f64_with_nan(sheet::as_f32(pos)),
+        std::num::f32_to_f64_with_nan(sheet::as_f32(f0)),
+        step.next,
+    )
+}
+
+// On to the target on the way to which the next mark is.
+fn settle(sheet: &[u8], w: Walk) -> Settled
+    requires { ⌜ Reads (now sheet) w ⌝ }
+    ensures { λ r. ⌜ walking.IsSettled (now (sheet .entry)) w r ⌝ }
+{
+    let mut walk = w;
+    while !is_on_way(walk) {
+        if walk.targets == 0 {
+            return Settled::Done;
+        }
+        match advance(sheet, walk) {
+            Aimed::Refused(cause) => return Settled::Refused(cause),
+            Aimed::To(next) => walk = next,
+        }
+    }
+    Settled::OnWay(walk)
+}
+
+// The walk at a later time, with one mark made.
+fn later(w: Walk, time: f64) -> Walk
+    requires { ⌜ 0 < w .left ⌝ }
+    ensures { λ r. ⌜ r ≡ walking.later w time ⌝ }
+{
+    Walk {
+        rate: w.rate,
+        time: time,
+        from: w.from,
+        base: w.base,
+        slope: w.slope,
+        position: w.position,
+        f0: w.f0,
+        climbs: w.climbs,
+        left: w.left - 1,
+        at: w.at,
+        targets: w.targets,
+    }
+}
+
+// One mark, on the way to the target.
+fn mark(w: Walk) -> Step
+    ensures { λ r. ⌜ r ≡ walking.marked w ⌝ }
+{
+    if 0 < w.left {
+        let time = next_time(w);
+        let m = mark_at(w, time);
+        if m <= 16777215 {
+            return Step {
+                event: Event::Mark(m),
+                walk: later(w, time),
+            };
+        }
+        return Step {
+            event: Event::Refused(Refusal::PastLimit),
+            walk: w,
+        };
+    }
+    Step {
+        event: Event::Refused(Refusal::TooManyMarks),
+        walk: w,
+    }
+}
+
+// The first of what is still to come.
+fn next(sheet: &[u8], w: Walk) -> Step
+    requires { ⌜ Reads (now sheet) w ⌝ }
+    ensures { λ r. ⌜ walking.Steps (now (sheet .entry)) w r ⌝ }
+{
+    match settle(sheet, w) {
+        Settled::OnWay(on) => mark(on),
+        Settled::Refused(cause) => Step {
+            event: Event::Refused(cause),
+            walk: w,
+        },
+        Settled::Done => Step {
+            event: Event::Done,
+            walk: w,
+        },
+    }
+}
+
+// The walk before the first target, at a rate in samples per second.
+fn fresh(places: Places, rate: u32) -> Walk
+    ensures { λ r. ⌜ r ≡ walking.freshWalk places rate ⌝ }
+{
+    let targets = places.targets;
+    Walk {
+        rate: std::num::nearest_u64_to_f64(rate as u64),
+        time: 0.0,
+        from: 0.0,
+        base: 0.0,
+        slope: 0.0,
+        position: 0.0,
+        f0: 120.0,
+        climbs: false,
+        left: 65536,
+        at: targets.at,
+        targets: targets.count,
+    }
 }
