@@ -1,3 +1,7 @@
+use mathlib.Core.Path.{_≡_, refl, sym, subst}
+use native.Mathlib.Omega.{arith}
+use Rattle.marks.specs.Walking.{IsSettled, Steps}
+use Rattle.marks.proofs.WalkLaws.{marked-steps, same-steps}
 use borrow.Author.Needs.{needs}
 use Rattle.marks.proofs.next.Statement.{statement}
 use Rattle.marks.proofs.next.Tie as tie
@@ -6,37 +10,36 @@ use Rattle.marks.proofs.next.Lts as lts
 use Rattle.marks.proofs.mark.Reads as mark-reads
 use Rattle.marks.proofs.settle.Reads as settle-reads
 
--- src/lib.rt:243:11
 settle-requires : tie.Need-settle-requires
 settle-requires c κs = search needs
 
--- src/lib.rt:244:24
 enum-known-on : tie.Need-enum-known-on
 enum-known-on c = search needs
 
--- src/lib.rt:244:31
 mark-requires : tie.Need-mark-requires
 mark-requires c κs = search needs
 
--- src/lib.rt:245:26
 enum-known-cause : tie.Need-enum-known-cause
 enum-known-cause c = search needs
 
--- src/lib.rt:250:20
 enum-told : tie.Need-enum-told
 enum-told c = search needs
 
--- src/lib.rt:239:1
 returns : tie.Need-returns
-returns c = ?
+returns c = let k = c .before .before .before .before in
+    let a = k .before .before in
+    let s = subst (IsSettled (a .args .sheet .now) (a .args .w)) (c .before .before .on .given .1) (k .settle .ensures) in
+    same-steps _ _ _ _ (s .0) (s .2) (subst (Steps (a .args .sheet .now) (c .before .before .on .given .0 .0)) (sym (c .mark .ensures)) (marked-steps _ _ (s .1) (s .3)))
 
--- src/lib.rt:239:1
 returns-2 : tie.Need-returns-2
-returns-2 c = ?
+returns-2 c = let k = c .before .before .before in
+    let a = k .before .before in
+    record { is = subst (IsSettled (a .args .sheet .now) (a .args .w)) (c .before .cause .given .1) (k .settle .ensures); ahead = a .pre; counted = omega arith; low = omega arith }
 
--- src/lib.rt:239:1
 returns-3 : tie.Need-returns-3
-returns-3 c = ?
+returns-3 c = let k = c .before .before in
+    let a = k .before .before in
+    record { is = subst (IsSettled (a .args .sheet .now) (a .args .w)) (c .enum-told .given .1) (k .settle .ensures); ahead = a .pre; counted = omega arith; low = omega arith }
 
 pub next-spec : {M : Type 1} → statement M
 next-spec =
