@@ -4,3 +4,5 @@ pub mod CountLaws
 pub mod LimitLaws
 pub mod FiniteLaws
 pub mod WalkLaws
+pub mod CheckLaws
+pub mod StoreLaws

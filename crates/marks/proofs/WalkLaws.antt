@@ -26,10 +26,11 @@ use Rattle.units.specs.Units.{limit}
 use Rattle.marks.specs.declared.Walk.{Walk}
 use Rattle.marks.specs.declared.Aimed.{Aimed}
 use Rattle.marks.specs.declared.Aimed.the-variants as aim
+use Rattle.marks.specs.declared.Event.{Event}
 use Rattle.marks.specs.declared.Event.the-variants.{Mark, Refused}
 use Rattle.marks.specs.declared.Step.{Step}
 use Rattle.marks.specs.PitchMarks.{Made, Contour, Climb, Stage, goesOn, nextTime, markAt, ends, withMark, climb, slopeOf, climbTo, stageAfter, thenMarks, marksFrom, pitchMarks}
-use Rattle.marks.specs.Walking.{contourOf, stageOf, onWay, climbOf, comingTo, readTargets, targetsAhead, coming, stops, Reads, freshWalk, moved, isAhead, aimed, Advanced, later, marked, beginning, Steps}
+use Rattle.marks.specs.Walking.{contourOf, stageOf, onWay, climbOf, comingTo, readTargets, targetsAhead, coming, stops, Reads, freshWalk, moved, isAhead, aimed, Advanced, later, marked, beginning, marksIn, markIn, Steps}
 
 -- ---- the targets ahead
 
@@ -48,10 +49,12 @@ ahead-is sheet w ts a = (ap (λ (g : Got (List Target)). comingTo w (readTargets
 pub target-there : (sheet : List ℕ) (w : Walk) → Reads sheet w → 0 < w .targets → isRead (target (drop (w .at) sheet)) ≡ true
 target-there sheet w h l = ahead-some target sheet (w .targets) (w .at) _ (λ e. omega arith) (read-ahead sheet w h)
 
-pub fresh-coming : (sheet : List ℕ) (p : Places) (rate : ℕ) → answerIn (sheetPlaces sheet) ≡ Read p
-    → (coming sheet (freshWalk p rate) ≡ pitchMarks rate (sheetOf sheet .targets)) × Reads sheet (freshWalk p rate)
+pub fresh-coming : (sheet : List ℕ) (p : Places) (rate : ℕ) (w : Walk) → answerIn (sheetPlaces sheet) ≡ Read p → w ≡ freshWalk p rate
+    → (coming sheet w ≡ pitchMarks rate (sheetOf sheet .targets)) × Reads sheet w
 unfolding comingTo climbOf pitchMarks
-fresh-coming sheet p rate e = ahead-is sheet (freshWalk p rate) (sheetOf sheet .targets) (sheet-ahead sheet p e .targets)
+fresh-coming sheet p rate w e f =
+    subst (λ (w : Walk). (coming sheet w ≡ pitchMarks rate (sheetOf sheet .targets)) × Reads sheet w) (sym f)
+    (ahead-is sheet (freshWalk p rate) (sheetOf sheet .targets) (sheet-ahead sheet p e .targets))
 
 -- ---- at a target
 
@@ -207,3 +210,11 @@ module _ (sheet : List ℕ) (w : Walk) (h : Reads sheet w) where
 -- the same step from a walk with the same to come
 pub same-steps : (sheet : List ℕ) (w n : Walk) (s : Step) → coming sheet n ≡ coming sheet w → n .left ≡ w .left → Steps sheet n s → Steps sheet w s
 same-steps sheet w n s e l i = record { is = sym e ∙ i .is; ahead = i .ahead; counted = i .counted ∙ l; low = i .low }
+
+-- a step that makes a mark
+module _ (sheet : List ℕ) (w : Walk) (s : Step) (i : Steps sheet w s) (m : ℕ) (q : s .event ≡ Mark m) where
+  pub step-left : s .walk .left + 1 ≡ w .left
+  step-left = ap (λ (e : Event). s .walk .left + marksIn e) (sym q) ∙ i .counted
+
+  pub step-low : m ≤ limit
+  step-low = let b = i .low in rw q at b

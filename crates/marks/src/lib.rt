@@ -2,12 +2,24 @@
 ghost use mathlib.Core.Path.{_≡_};
 ghost use mathlib.Core.Bool.{true, false};
 ghost use Prim.Native.Nat.{_+_, _≤_, _<_};
+ghost use lib.ListN.{length};
+ghost use Rattle.base.specs.Buffers.{over, flat};
+ghost use Rattle.base.specs.Bytes.{bytesOf};
 ghost use Rattle.sheet.specs.Sheet as sheets;
+ghost use Rattle.sheet.specs.Places.{answerIn, sheetPlaces};
+ghost use Rattle.sheet.specs.declared.SheetAnswer.the-variants.{Read};
 ghost use Rattle.marks.specs.PitchMarks as pitch;
 ghost use Rattle.marks.specs.Walking as walking;
 ghost use Rattle.marks.specs.Walking.{contourOf, stageOf, onWay, isAhead, Reads};
+ghost use Rattle.marks.specs.Checking.{checkedMarks, Bounded, CanStore};
 use refusal::Refusal;
 use sheet::Places;
+
+// How many marks there are and the last one, 0 where there is none; or why they are refused.
+pub enum CheckedMarks {
+    Refused(Refusal),
+    Made(usize, usize),
+}
 
 // Where the making of pitch marks stands. The pitch goes from `base` at the time `from` by `slope`,
 // in Hz per second, to the target at `position`, whose pitch is `f0`; marks are made on the way if
@@ -270,5 +282,55 @@ fn fresh(places: Places, rate: u32) -> Walk
         left: 65536,
         at: targets.at,
         targets: targets.count,
+    }
+}
+
+// Makes the pitch marks of a sheet at a rate in samples per second, and writes none.
+pub fn check_marks(sheet: &[u8], places: Places, rate: u32) -> CheckedMarks
+    requires { ⌜ answerIn (sheetPlaces (now sheet)) ≡ Read places ⌝ }
+    ensures { λ r.
+        ⌜
+        (r ≡ checkedMarks (pitch.pitchMarks rate (sheets.sheetOf (now (sheet .entry)) .targets))) ×
+        Bounded r
+        ⌝ }
+{
+    let mut walk = fresh(places, rate);
+    let mut count = 0;
+    let mut last = 0;
+    loop {
+        let step = next(sheet, walk);
+        let event = step.event;
+        match event {
+            Event::Refused(cause) => return CheckedMarks::Refused(cause),
+            Event::Done => return CheckedMarks::Made(count, last),
+            Event::Mark(m) => last = m,
+        }
+        count += 1;
+        walk = step.walk;
+    }
+}
+
+// Stores the pitch marks, four bytes each, at the front of a buffer.
+pub fn store_marks(sheet: &[u8], places: Places, rate: u32, marks: &mut [u8])
+    requires { ⌜ CanStore (now sheet) places rate (length (now marks)) ⌝ }
+    ensures { λ _.
+        ⌜
+        now (marks .exit) ≡
+        over (flat (bytesOf 4) (pitch.pitchMarks rate (sheets.sheetOf (now (sheet .entry)) .targets) .marks))
+        (now (marks .entry))
+        ⌝ }
+{
+    let mut walk = fresh(places, rate);
+    let mut i = 0;
+    loop {
+        let step = next(sheet, walk);
+        let event = step.event;
+        match event {
+            Event::Refused(_) => return,
+            Event::Done => return,
+            Event::Mark(m) => base::bytes::put_u32(marks, i, m as u32),
+        }
+        i += 1;
+        walk = step.walk;
     }
 }
