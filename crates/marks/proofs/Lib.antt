@@ -6,3 +6,4 @@ pub mod FiniteLaws
 pub mod WalkLaws
 pub mod CheckLaws
 pub mod StoreLaws
+pub mod UnitLaws

@@ -2,7 +2,7 @@
 use mathlib.Core.Path.{_≡_, sym, ap, subst, _∙_}
 use mathlib.Core.List.{List, [], _∷_, _++_}
 use mathlib.Core.Option.{Option, none, some}
-use Prim.Native.Nat.{ℕ, zero, suc, _+_, _*_, _≤_, _<_}
+use Prim.Native.Nat.{ℕ, _+_, _-_, _*_, _≤_, _<_}
 use native.Mathlib.Omega.{arith}
 use lib.ListN.{length}
 use lib.Seq.{sets, length-sets}
@@ -10,6 +10,8 @@ use Rattle.base.specs.Buffers.{flat, over}
 use Rattle.base.specs.Bytes.{bytesOf}
 use Rattle.base.proofs.BufferLaws.{sets-append, sets-over, length-flat}
 use Rattle.base.proofs.ByteLaws.{length-bytesOf}
+use Rattle.voice.specs.Voice.{Voice}
+use Rattle.voice.specs.Periods.{samplesOf, samplesFrom}
 use Rattle.refusal.specs.declared.Refusal.{Refusal}
 use Rattle.sheet.specs.declared.Places.{Places}
 use Rattle.sheet.specs.Sheet.{sheetOf}
@@ -20,7 +22,9 @@ use Rattle.marks.specs.declared.Event.the-variants.{Mark, Refused, Done}
 use Rattle.marks.specs.PitchMarks.{Made, pitchMarks}
 use Rattle.marks.specs.Walking.{coming, Reads, freshWalk, Steps, beginning}
 use Rattle.marks.specs.Checking.{CanStore}
+use Rattle.marks.specs.NaturalMarks.{marksOfPeriods}
 use Rattle.marks.proofs.WalkLaws.{fresh-coming}
+use Rattle.marks.proofs.UnitLaws.{periods-none, samples-none, periods-more, samples-more}
 
 -- ---- marks still to store, from element i on
 
@@ -98,3 +102,39 @@ storing-first sheet p rate w d h f =
       stores = subst (λ (m : Made). Stores d 0 (m .marks) (over (flat (bytesOf 4) (made .marks)) d)) e (store-all d (made .marks) (h .room));
       ahead = c .1;
     }
+
+-- ---- one turn of a unit
+
+-- the periods from p to `last` are still to store, the first of which begins at `end`; after them comes the place `next`
+pub record UnitStoring (v : Voice) (last : ℕ) (d : List ℕ) (end i p : ℕ) (all : List ℕ) (next : ℕ) : Type 0 where
+  pub stores : Stores d i (marksOfPeriods v end p (last - p)) all
+  pub ends : end + samplesFrom v p (last - p) ≡ next
+
+module _ (v : Voice) (last : ℕ) (d : List ℕ) (end i p : ℕ) (all : List ℕ) (next : ℕ) (k : UnitStoring v last d end i p all next) where
+  pub unit-stored : last ≤ p → (end ≡ next) × (d ≡ all)
+  unit-stored h =
+      let z : last - p ≡ 0 = omega arith in
+      (sym (samples-none v end p (last - p) z) ∙ k .ends, store-none d i all (subst (λ (ms : List ℕ). Stores d i ms all) (periods-none v end p (last - p) z) (k .stores)))
+
+  module _ (h : p < last) where
+    abbrev end₁ : ℕ
+    end₁ = end + samplesOf v p
+
+    less : last - p - 1 ≡ last - (p + 1)
+    less = omega arith
+
+    to-store-unit : Stores d i (end₁ ∷ marksOfPeriods v end₁ (p + 1) (last - (p + 1))) all
+    to-store-unit = subst (λ (ms : List ℕ). Stores d i ms all) (periods-more v end p (last - p) (omega arith) ∙ ap (λ (n : ℕ). end₁ ∷ marksOfPeriods v end₁ (p + 1) n) less) (k .stores)
+
+    ends-after : end₁ + samplesFrom v (p + 1) (last - (p + 1)) ≡ next
+    ends-after = ap (λ (n : ℕ). end₁ + samplesFrom v (p + 1) n) (sym less) ∙ sym (samples-more v end p (last - p) (omega arith)) ∙ k .ends
+
+    pub unit-room : 4 * i + 4 ≤ length d
+    unit-room = let r = to-store-unit .room in omega arith
+
+    pub unit-low : (size : ℕ) → size ≡ samplesOf v p → end + size ≤ next
+    unit-low size e = let a = ends-after in omega arith
+
+    pub unit-storing : (size : ℕ) (d₁ : List ℕ) → size ≡ samplesOf v p → d₁ ≡ sets d (4 * i) (bytesOf 4 (end + size)) → UnitStoring v last d₁ (end + size) (i + 1) (p + 1) all next
+    unit-storing size d₁ e f =
+        rw (f, e) (record { stores = store-one d i end₁ _ all to-store-unit; ends = ends-after })

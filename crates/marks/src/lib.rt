@@ -1,4 +1,6 @@
 // Pitch marks: where each output period ends, in samples.
+pub mod natural;
+
 ghost use mathlib.Core.Path.{_≡_};
 ghost use mathlib.Core.Bool.{true, false};
 ghost use Prim.Native.Nat.{_+_, _≤_, _<_};
@@ -19,6 +21,12 @@ use sheet::Places;
 pub enum CheckedMarks {
     Refused(Refusal),
     Made(usize, usize),
+}
+
+// The place after a unit and how many marks are still allowed, or why its marks are refused.
+pub enum UnitMarks {
+    Refused(Refusal),
+    To(usize, usize),
 }
 
 // Where the making of pitch marks stands. The pitch goes from `base` at the time `from` by `slope`,

@@ -1,0 +1,91 @@
+use mathlib.Core.Path.{_≡_, refl, sym, ap, subst, _∙_}
+use mathlib.Core.List.{List}
+use Prim.Native.Nat.{ℕ, _+_, _-_, _*_, _≤_, _<_}
+use native.Mathlib.Omega.{arith}
+use borrow.Author.Needs.{needs}
+use lib.ListN.{length}
+use lib.Seq.{sets, length-sets}
+use Rattle.base.specs.Buffers.{flat}
+use Rattle.base.specs.Bytes.{bytesOf}
+use Rattle.voice.specs.Voice.{voiceOf}
+use Rattle.voice.specs.Periods.{samplesOf, samplesFrom}
+use Rattle.marks.specs.NaturalMarks.{marksOfPeriods}
+use Rattle.marks.proofs.StoreLaws.{UnitStoring, unit-stored, unit-room, unit-low, unit-storing}
+use Rattle.marks.proofs.UnitLaws.{length-periods}
+use Rattle.marks.proofs.natural.store_unit_marks.Statement.{statement}
+use Rattle.marks.proofs.natural.store_unit_marks.Tie as tie
+use Rattle.marks.proofs.natural.store_unit_marks.Reads as reads
+use Rattle.marks.proofs.natural.store_unit_marks.Lts as lts
+use Rattle.base.proofs.bytes.put_u32.Reads as put-u32-reads
+use Rattle.voice.proofs.periods.period_samples.Reads as period-samples-reads
+
+abbrev Inv-loop : tie.InvT-loop
+Inv-loop file d place first last index marks₀ end₀ i₀ p₀ marks end i p =
+    let v = voiceOf file in
+    UnitStoring v last marks end i p (sets marks₀ (4 * index) (flat (bytesOf 4) (marksOfPeriods v place first (last - first)))) (place + samplesFrom v first (last - first))
+    × (length marks ≡ length marks₀)
+
+abbrev μ-loop : tie.MeasureT-loop
+μ-loop file d place first last index marks₀ end₀ i₀ p₀ marks end i p = last - p
+
+-- src/natural.rt:71:5
+loop-holds : tie.Need-loop-holds Inv-loop μ-loop
+loop-holds c = ?
+
+-- src/natural.rt:72:16
+period-samples-requires : tie.Need-period-samples-requires Inv-loop μ-loop
+period-samples-requires c κs = ?
+
+-- src/natural.rt:72:9
+add-end : tie.Need-add-end Inv-loop μ-loop
+add-end c = ?
+
+-- src/natural.rt:73:40
+cast-put-u32 : tie.Need-cast-put-u32 Inv-loop μ-loop
+cast-put-u32 c = ?
+
+-- src/natural.rt:73:9
+put-u32-requires : tie.Need-put-u32-requires Inv-loop μ-loop
+put-u32-requires c κs = ?
+
+-- src/natural.rt:74:9
+add-i : tie.Need-add-i Inv-loop μ-loop
+add-i c = ?
+
+-- src/natural.rt:75:9
+add-p : tie.Need-add-p Inv-loop μ-loop
+add-p c = ?
+
+-- src/natural.rt:71:5
+loop-less : tie.Need-loop-less Inv-loop μ-loop
+loop-less c = ?
+
+-- src/natural.rt:71:5
+loop-again : tie.Need-loop-again Inv-loop μ-loop
+loop-again c = ?
+
+-- src/natural.rt:50:1
+same-length : tie.Need-same-length Inv-loop μ-loop
+same-length c = ?
+
+-- src/natural.rt:50:1
+returns : tie.Need-returns Inv-loop μ-loop
+returns c = ?
+
+pub store-unit-marks-spec : {M : Type 1} → statement M
+store-unit-marks-spec =
+    tie.close
+    (tie.spec
+    Inv-loop
+    μ-loop
+    loop-holds
+    period-samples-requires
+    add-end
+    cast-put-u32
+    put-u32-requires
+    add-i
+    add-p
+    loop-less
+    loop-again
+    same-length
+    returns)
