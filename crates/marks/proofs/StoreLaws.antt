@@ -1,5 +1,5 @@
 -- The loops that store marks.
-use mathlib.Core.Path.{_≡_, sym, ap, subst, _∙_}
+use mathlib.Core.Path.{_≡_, refl, sym, ap, subst, _∙_}
 use mathlib.Core.List.{List, [], _∷_, _++_}
 use mathlib.Core.Option.{Option, none, some}
 use Prim.Native.Nat.{ℕ, _+_, _-_, _*_, _≤_, _<_}
@@ -10,7 +10,8 @@ use Rattle.base.specs.Buffers.{flat, over}
 use Rattle.base.specs.Bytes.{bytesOf}
 use Rattle.base.proofs.BufferLaws.{sets-append, sets-over, length-flat}
 use Rattle.base.proofs.ByteLaws.{length-bytesOf}
-use Rattle.voice.specs.Voice.{Voice}
+use Rattle.voice.specs.declared.DiphoneVoice.{DiphoneVoice}
+use Rattle.voice.specs.Voice.{Voice, voiceOf}
 use Rattle.voice.specs.Periods.{samplesOf, samplesFrom}
 use Rattle.refusal.specs.declared.Refusal.{Refusal}
 use Rattle.sheet.specs.declared.Places.{Places}
@@ -21,10 +22,10 @@ use Rattle.marks.specs.declared.Event.{Event}
 use Rattle.marks.specs.declared.Event.the-variants.{Mark, Refused, Done}
 use Rattle.marks.specs.PitchMarks.{Made, pitchMarks}
 use Rattle.marks.specs.Walking.{coming, Reads, freshWalk, Steps, beginning}
-use Rattle.marks.specs.Checking.{CanStore}
+use Rattle.marks.specs.Checking.{CanStore, CanStoreUnit}
 use Rattle.marks.specs.NaturalMarks.{marksOfPeriods}
 use Rattle.marks.proofs.WalkLaws.{fresh-coming}
-use Rattle.marks.proofs.UnitLaws.{periods-none, samples-none, periods-more, samples-more}
+use Rattle.marks.proofs.UnitLaws.{periods-none, samples-none, periods-more, samples-more, length-periods}
 
 -- ---- marks still to store, from element i on
 
@@ -135,6 +136,13 @@ module _ (v : Voice) (last : ℕ) (d : List ℕ) (end i p : ℕ) (all : List ℕ
     pub unit-low : (size : ℕ) → size ≡ samplesOf v p → end + size ≤ next
     unit-low size e = let a = ends-after in omega arith
 
-    pub unit-storing : (size : ℕ) (d₁ : List ℕ) → size ≡ samplesOf v p → d₁ ≡ sets d (4 * i) (bytesOf 4 (end + size)) → UnitStoring v last d₁ (end + size) (i + 1) (p + 1) all next
-    unit-storing size d₁ e f =
-        rw (f, e) (record { stores = store-one d i end₁ _ all to-store-unit; ends = ends-after })
+    pub unit-storing : (size : ℕ) (d₁ : List ℕ) → size ≡ samplesOf v p → d₁ ≡ sets d (4 * i) (bytesOf 4 (end + size)) 
+        → UnitStoring v last d₁ (end + size) (i + 1) (p + 1) all next × (length d₁ ≡ length d)
+    unit-storing size d₁ e f = rw (f, e) (record { stores = store-one d i end₁ _ all to-store-unit; ends = ends-after }, simp length-sets)
+
+pub unit-first : (file : List ℕ) (v : DiphoneVoice) (place first last index : ℕ) (d : List ℕ) → CanStoreUnit file v place first last index (length d)
+    → UnitStoring (voiceOf file) last d place index first (sets d (4 * index) (flat (bytesOf 4) (marksOfPeriods (voiceOf file) place first (last - first)))) (place + samplesFrom (voiceOf file) first (last - first))
+unit-first file v place first last index d h =
+    let n = length-periods (voiceOf file) place first (last - first) in
+    let r = h .room in
+    record { stores = record { room = omega arith; whole = refl }; ends = refl }

@@ -11,7 +11,7 @@ use Rattle.voice.specs.Voice.{voiceOf}
 use Rattle.voice.specs.Periods.{samplesOf, samplesFrom}
 use Rattle.marks.specs.NaturalMarks.{marksOfPeriods}
 use Rattle.marks.proofs.StoreLaws.{UnitStoring, unit-stored, unit-room, unit-low, unit-storing}
-use Rattle.marks.proofs.UnitLaws.{length-periods}
+use Rattle.marks.proofs.StoreLaws.{unit-first}
 use Rattle.marks.proofs.natural.store_unit_marks.Statement.{statement}
 use Rattle.marks.proofs.natural.store_unit_marks.Tie as tie
 use Rattle.marks.proofs.natural.store_unit_marks.Reads as reads
@@ -28,49 +28,45 @@ Inv-loop file d place first last index marks₀ end₀ i₀ p₀ marks end i p =
 abbrev μ-loop : tie.MeasureT-loop
 μ-loop file d place first last index marks₀ end₀ i₀ p₀ marks end i p = last - p
 
--- src/natural.rt:71:5
 loop-holds : tie.Need-loop-holds Inv-loop μ-loop
-loop-holds c = ?
+loop-holds c = (unit-first _ _ _ _ _ _ _ (c .before .before .pre), refl)
 
--- src/natural.rt:72:16
 period-samples-requires : tie.Need-period-samples-requires Inv-loop μ-loop
-period-samples-requires c κs = ?
+period-samples-requires c κs = let q = c .before .before .before .before .pre in let w = q .within in (q .opens, omega arith)
 
--- src/natural.rt:72:9
 add-end : tie.Need-add-end Inv-loop μ-loop
-add-end c = ?
+add-end c = search needs
 
--- src/natural.rt:73:40
 cast-put-u32 : tie.Need-cast-put-u32 Inv-loop μ-loop
-cast-put-u32 c = ?
+cast-put-u32 c = let l = c .before .before .before in
+    let u = unit-low _ _ _ _ _ _ _ _ (l .loop .inv .0) (c .before .before .loop-test .taken) _ (c .before .period-samples .ensures .0) in
+    let w = l .before .before .before .pre .low in
+    omega arith
 
--- src/natural.rt:73:9
 put-u32-requires : tie.Need-put-u32-requires Inv-loop μ-loop
-put-u32-requires c κs = ?
+put-u32-requires c κs = unit-room _ _ _ _ _ _ _ _ (c .before .before .before .loop .inv .0) (c .before .before .loop-test .taken)
 
--- src/natural.rt:74:9
 add-i : tie.Need-add-i Inv-loop μ-loop
-add-i c = ?
+add-i c = let l = c .before .before .before .before .before .before in
+    let r = unit-room _ _ _ _ _ _ _ _ (l .loop .inv .0) (c .before .before .before .before .before .loop-test .taken) in
+    omega (arith, r, l .loop .inv .1)
 
--- src/natural.rt:75:9
 add-p : tie.Need-add-p Inv-loop μ-loop
-add-p c = ?
+add-p c = search needs
 
--- src/natural.rt:71:5
 loop-less : tie.Need-loop-less Inv-loop μ-loop
-loop-less c = ?
+loop-less c = search needs
 
--- src/natural.rt:71:5
 loop-again : tie.Need-loop-again Inv-loop μ-loop
-loop-again c = ?
+loop-again c = let l = c .before .before .before .before .before .before in
+    let s = unit-storing _ _ _ _ _ _ _ _ (l .loop .inv .0) (c .before .before .before .before .before .loop-test .taken) _ _ (c .before .before .before .before .period-samples .ensures .0) (c .before .before .put-u32 .ensures) in
+    (s .0, s .1 ∙ l .loop .inv .1)
 
--- src/natural.rt:50:1
 same-length : tie.Need-same-length Inv-loop μ-loop
-same-length c = ?
+same-length c = c .before .loop .inv .1
 
--- src/natural.rt:50:1
 returns : tie.Need-returns Inv-loop μ-loop
-returns c = ?
+returns c = unit-stored _ _ _ _ _ _ _ _ (c .before .loop .inv .0) (c .loop-test .left)
 
 pub store-unit-marks-spec : {M : Type 1} → statement M
 store-unit-marks-spec =
