@@ -7,3 +7,4 @@ pub mod WalkLaws
 pub mod CheckLaws
 pub mod StoreLaws
 pub mod UnitLaws
+pub mod JoinLaws

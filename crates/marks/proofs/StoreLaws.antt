@@ -1,7 +1,7 @@
 -- The loops that store marks.
 use mathlib.Core.Path.{_≡_, refl, sym, ap, subst, _∙_}
-use mathlib.Core.List.{List, [], _∷_, _++_}
-use mathlib.Core.Option.{Option, none, some}
+use mathlib.Core.List.{List, [], _∷_}
+use mathlib.Core.Option.{none, some}
 use Prim.Native.Nat.{ℕ, _+_, _-_, _*_, _≤_, _<_}
 use native.Mathlib.Omega.{arith}
 use lib.ListN.{length}
@@ -82,13 +82,14 @@ module _ (sheet : List ℕ) (w : Walk) (d : List ℕ) (i : ℕ) (all : List ℕ)
     storing-room = let r = to-store .room in omega arith
 
     pub storing-mark : (d₁ : List ℕ) → d₁ ≡ sets d (4 * i) (bytesOf 4 m) → Storing sheet (s .walk) d₁ (i + 1) all × (length d₁ ≡ length d)
-    storing-mark d₁ e =
-        (record {
-          spoken = ap (λ (m : Made). m .refusal) (sym (begins (Mark m) q)) ∙ k .spoken;
-          stores = subst (λ (l : List ℕ). Stores l (i + 1) (coming sheet (s .walk) .marks) all) (sym e) (store-one d i m _ all to-store);
-          ahead = t .ahead;
-        },
-        ap length e ∙ simp length-sets)
+    storing-mark d₁ e = (
+      record {
+        spoken = ap (λ (m : Made). m .refusal) (sym (begins (Mark m) q)) ∙ k .spoken;
+        stores = subst (λ (l : List ℕ). Stores l (i + 1) (coming sheet (s .walk) .marks) all) (sym e) (store-one d i m _ all to-store);
+        ahead = t .ahead;
+      },
+      ap length e ∙ simp length-sets,
+    )
 
 -- ---- all turns
 
@@ -136,7 +137,7 @@ module _ (v : Voice) (last : ℕ) (d : List ℕ) (end i p : ℕ) (all : List ℕ
     pub unit-low : (size : ℕ) → size ≡ samplesOf v p → end + size ≤ next
     unit-low size e = let a = ends-after in omega arith
 
-    pub unit-storing : (size : ℕ) (d₁ : List ℕ) → size ≡ samplesOf v p → d₁ ≡ sets d (4 * i) (bytesOf 4 (end + size)) 
+    pub unit-storing : (size : ℕ) (d₁ : List ℕ) → size ≡ samplesOf v p → d₁ ≡ sets d (4 * i) (bytesOf 4 (end + size))
         → UnitStoring v last d₁ (end + size) (i + 1) (p + 1) all next × (length d₁ ≡ length d)
     unit-storing size d₁ e f = rw (f, e) (record { stores = store-one d i end₁ _ all to-store-unit; ends = ends-after }, simp length-sets)
 

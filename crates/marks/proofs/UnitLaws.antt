@@ -1,25 +1,18 @@
--- The marks of one unit of the simple join, period by period, and those of a list of units, unit by unit.
-use mathlib.Core.Path.{_≡_, refl, sym, ap, _∙_}
-use mathlib.Core.Bool.{Bool, true, false}
-use mathlib.Core.List.{List, [], _∷_, _++_}
-use mathlib.Core.Option.{Option, none, some}
-use Prim.Native.Nat.{ℕ, zero, suc, _+_, _-_, _*_, _≤_, _<_}
+-- The marks of one unit of the simple join, period by period.
+use mathlib.Core.Path.{_≡_, refl, ap, _∙_}
+use mathlib.Core.List.{List, [], _∷_}
+use mathlib.Core.Option.{some}
+use Prim.Native.Nat.{ℕ, zero, suc, _+_, _-_, _≤_, _<_}
 use native.Mathlib.Numerals.{add-one}
 use native.Mathlib.Omega.{arith}
 use borrow.Author.Tests.{le-leb, lt-leb}
-use lib.Dec.{leb}
 use lib.ListN.{length}
-use Rattle.base.specs.Choice.{pick}
-use Rattle.base.specs.Lists.{orNext}
-use Rattle.refusal.specs.declared.Refusal.{Refusal}
 use Rattle.refusal.specs.declared.Refusal.the-variants.{PastLimit, TooManyMarks}
 use Rattle.voice.specs.Voice.{Voice}
 use Rattle.voice.specs.Periods.{samplesOf, samplesFrom}
-use Rattle.units.specs.declared.Unit.{Unit}
 use Rattle.units.specs.Units.{limit}
-use Rattle.marks.specs.declared.UnitMarks.{UnitMarks}
 use Rattle.marks.specs.declared.UnitMarks.the-variants as unit
-use Rattle.marks.specs.NaturalMarks.{periodCount, marksOfPeriods, placeAfterUnit, naturalMarks, markRefusal}
+use Rattle.marks.specs.NaturalMarks.{marksOfPeriods, markRefusal}
 use Rattle.marks.specs.Checking.{unitAnswered, unitMarks}
 
 -- ---- one mark
@@ -85,66 +78,7 @@ module _ (v : Voice) (place p : ℕ) where
         let d : left - n ≡ left - 1 - (n - 1) = omega arith in
         turn ∙ rw (refusal-more left end (marksOfPeriods v end (p + 1) (n - 1)) l g, d)
 
--- ---- one unit after the other
-
-pub refusal-append : (left : ℕ) (a b : List ℕ) → markRefusal left (a ++ b) ≡ orNext (markRefusal left a) (markRefusal (left - length a) b)
-unfolding markRefusal
-refusal-append left [] b = let e : left - 0 ≡ left = omega arith in rw e
-refusal-append zero (m ∷ a) b = refl
-refusal-append (suc n) (m ∷ a) b =
-    let e : suc n - suc (length a) ≡ n - length a = omega arith in
-    rw e (by (leb m limit) (refusal-append n a b))
-  where
-    by : (t : Bool) → markRefusal n (a ++ b) ≡ orNext (markRefusal n a) (markRefusal (n - length a) b)
-        → pick t (markRefusal n (a ++ b)) (some PastLimit) ≡ orNext (pick t (markRefusal n a) (some PastLimit)) (markRefusal (n - length a) b)
-    by true i = i
-    by false i = refl
-
 pub length-periods : (v : Voice) (place p n : ℕ) → length (marksOfPeriods v place p n) ≡ n
 unfolding marksOfPeriods
 length-periods v place p zero = refl
 length-periods v place p (suc n) = ap suc (length-periods v (place + samplesOf v p) (suc p) n)
-
-module _ (v : Voice) (place left : ℕ) (u : Unit) (us : List Unit) where
-  abbrev of-unit : List ℕ
-  of-unit = marksOfPeriods v place (u .«first_period») (periodCount u)
-
-  abbrev others : List ℕ
-  others = naturalMarks v (placeAfterUnit v place u) us
-
-  pub natural-unit : naturalMarks v place (u ∷ us) ≡ of-unit ++ others
-  unfolding naturalMarks
-  natural-unit = refl
-
-  natural-refusal : markRefusal left (naturalMarks v place (u ∷ us)) ≡ orNext (markRefusal left of-unit) (markRefusal (left - periodCount u) others)
-  natural-refusal = let n = length-periods v place (u .«first_period») (periodCount u) in ap (markRefusal left) natural-unit ∙ refusal-append left of-unit others ∙ rw n
-
-  abbrev answer : UnitMarks
-  answer = unitMarks v place (u .«first_period») (periodCount u) left
-
-  -- the refusal of a unit is that of all
-  pub natural-refused : (r : Refusal) → answer ≡ unit.Refused r → markRefusal left (naturalMarks v place (u ∷ us)) ≡ some r
-  unfolding unitMarks
-  natural-refused r e = natural-refusal ∙ by (markRefusal left of-unit) e
-    where
-      by : (o : Option Refusal) → unitAnswered o (placeAfterUnit v place u) (left - periodCount u) ≡ unit.Refused r → orNext o (markRefusal (left - periodCount u) others) ≡ some r
-      by none e = let z : _≡_ {A = ℕ} 0 1 = cc in absurd (omega arith)
-      by (some c) e = cc
-
-  -- after a unit that is not refused, the others decide
-  pub record Passed (place₁ left₁ : ℕ) : Type 0 where
-    pub spoken : markRefusal left of-unit ≡ none
-    pub next : place₁ ≡ placeAfterUnit v place u
-    pub allowed : left₁ ≡ left - periodCount u
-    pub rest : markRefusal left (naturalMarks v place (u ∷ us)) ≡ markRefusal left₁ (naturalMarks v place₁ us)
-
-  pub natural-passed : (place₁ left₁ : ℕ) → answer ≡ unit.To place₁ left₁ → Passed place₁ left₁
-  unfolding unitMarks
-  natural-passed place₁ left₁ e = by (markRefusal left of-unit) refl e
-    where
-      by : (o : Option Refusal) → markRefusal left of-unit ≡ o → unitAnswered o (placeAfterUnit v place u) (left - periodCount u) ≡ unit.To place₁ left₁ → Passed place₁ left₁
-      by (some c) q e = let z : _≡_ {A = ℕ} 0 1 = cc in absurd (omega arith)
-      by none q e =
-          let a : placeAfterUnit v place u ≡ place₁ = cc in
-          let b : left - periodCount u ≡ left₁ = cc in
-          record { spoken = q; next = sym a; allowed = sym b; rest = natural-refusal ∙ rw (q, a, b) }

@@ -1,7 +1,7 @@
 -- What is still to come of the pitch marks, step by step.
 use mathlib.Core.Path.{_≡_, refl, sym, ap, subst, _∙_}
 use mathlib.Core.Bool.{Bool, true, false, _&&_}
-use mathlib.Core.List.{List, [], _∷_}
+use mathlib.Core.List.{List, _∷_}
 use mathlib.Core.Option.{Option, none, some}
 use Prim.Native.Nat.{ℕ, zero, suc, _+_, _-_, _≤_, _<_}
 use native.Mathlib.Omega.{arith}
@@ -17,7 +17,7 @@ use Rattle.refusal.specs.declared.Refusal.the-variants.{BadSlope, PastLimit, To
 use Rattle.sheet.specs.declared.Target.{Target}
 use Rattle.sheet.specs.declared.Places.{Places}
 use Rattle.sheet.specs.declared.SheetAnswer.the-variants.{Read}
-use Rattle.sheet.specs.Sheet.{Got, fails, gets, target, repeated, isFinite, asF32, sheetOf}
+use Rattle.sheet.specs.Sheet.{Got, fails, gets, target, isFinite, asF32, sheetOf}
 use Rattle.sheet.specs.Answers.{reads, TargetSaid}
 use Rattle.sheet.specs.Places.{isRead, answerIn, sheetPlaces}
 use Rattle.sheet.proofs.WalkLaws.{Ahead, ahead-some, ahead-none, ahead-step}
@@ -29,8 +29,8 @@ use Rattle.marks.specs.declared.Aimed.the-variants as aim
 use Rattle.marks.specs.declared.Event.{Event}
 use Rattle.marks.specs.declared.Event.the-variants.{Mark, Refused}
 use Rattle.marks.specs.declared.Step.{Step}
-use Rattle.marks.specs.PitchMarks.{Made, Contour, Climb, Stage, goesOn, nextTime, markAt, ends, withMark, climb, slopeOf, climbTo, stageAfter, thenMarks, marksFrom, pitchMarks}
-use Rattle.marks.specs.Walking.{contourOf, stageOf, onWay, climbOf, comingTo, readTargets, targetsAhead, coming, stops, Reads, freshWalk, moved, isAhead, aimed, Advanced, later, marked, beginning, marksIn, markIn, Steps}
+use Rattle.marks.specs.PitchMarks.{Made, Contour, Climb, goesOn, nextTime, markAt, ends, withMark, climb, slopeOf, climbTo, stageAfter, thenMarks, marksFrom, pitchMarks}
+use Rattle.marks.specs.Walking.{contourOf, stageOf, onWay, climbOf, comingTo, readTargets, targetsAhead, coming, stops, Reads, freshWalk, moved, isAhead, aimed, Advanced, later, marked, beginning, marksIn, Steps}
 
 -- ---- the targets ahead
 

@@ -1,14 +1,7 @@
-use mathlib.Core.Path.{_∙_}
 use Rattle.marks.proofs.WalkLaws.{target-there, advanced}
 use borrow.Author.Needs.{needs}
 use Rattle.marks.proofs.advance.Statement.{statement}
 use Rattle.marks.proofs.advance.Tie as tie
-use Rattle.marks.proofs.advance.Reads as reads
-use Rattle.marks.proofs.advance.Lts as lts
-use Rattle.marks.proofs.aim.Reads as aim-reads
-use Rattle.sheet.proofs.as_f32.Reads as as-f32-reads
-use Rattle.sheet.proofs.target_at.Reads as target-at-reads
-use Rattle.std.proofs.num.f32_to_f64_with_nan.Reads as f32-to-f64-with-nan-reads
 
 target-at-requires : tie.Need-target-at-requires
 target-at-requires c κs = let p = c .before .pre in target-there (c .before .args .sheet .now) (c .before .args .w) (p .0) (p .1)

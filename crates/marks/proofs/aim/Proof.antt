@@ -4,12 +4,6 @@ use Rattle.marks.specs.Walking.{aimed}
 use borrow.Author.Needs.{needs}
 use Rattle.marks.proofs.aim.Statement.{statement}
 use Rattle.marks.proofs.aim.Tie as tie
-use Rattle.marks.proofs.aim.Reads as reads
-use Rattle.marks.proofs.aim.Lts as lts
-use Rattle.marks.proofs.is_ahead.Reads as is-ahead-reads
-use Rattle.marks.proofs.is_finite.Reads as is-finite-reads
-use Rattle.marks.proofs.moved.Reads as moved-reads
-use Rattle.marks.proofs.slope_to.Reads as slope-to-reads
 
 is-ahead-requires : tie.Need-is-ahead-requires
 is-ahead-requires c κs = search needs

@@ -6,10 +6,6 @@ use borrow.Author.Needs.{needs}
 use Rattle.marks.proofs.CheckLaws.{Counting}
 use Rattle.marks.proofs.check_marks.Statement.{statement}
 use Rattle.marks.proofs.check_marks.Tie as tie
-use Rattle.marks.proofs.check_marks.Reads as reads
-use Rattle.marks.proofs.check_marks.Lts as lts
-use Rattle.marks.proofs.fresh.Reads as fresh-reads
-use Rattle.marks.proofs.next.Reads as next-reads
 
 abbrev Inv-loop : tie.InvT-loop
 Inv-loop sheet rate walk₀ count₀ last₀ walk count last = Counting sheet walk₀ walk count last

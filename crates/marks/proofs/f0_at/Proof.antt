@@ -2,8 +2,6 @@ use mathlib.Core.Path.{refl}
 use Rattle.marks.specs.PitchMarks.{f0At}
 use Rattle.marks.proofs.f0_at.Statement.{statement}
 use Rattle.marks.proofs.f0_at.Tie as tie
-use Rattle.marks.proofs.f0_at.Reads as reads
-use Rattle.marks.proofs.f0_at.Lts as lts
 
 returns : tie.Need-returns
 unfolding f0At

@@ -2,9 +2,6 @@ use lib.Ieee.{ofBits}
 use borrow.Author.Needs.{needs}
 use Rattle.marks.proofs.fresh.Statement.{statement}
 use Rattle.marks.proofs.fresh.Tie as tie
-use Rattle.marks.proofs.fresh.Reads as reads
-use Rattle.marks.proofs.fresh.Lts as lts
-use Rattle.std.proofs.num.nearest_u64_to_f64.Reads as nearest-u64-to-f64-reads
 
 nearest-u64-to-f64-requires : tie.Need-nearest-u64-to-f64-requires
 nearest-u64-to-f64-requires c κs = search needs

@@ -3,9 +3,6 @@ use Rattle.marks.specs.PitchMarks.{goesOn}
 use borrow.Author.Needs.{needs}
 use Rattle.marks.proofs.goes_on.Statement.{statement}
 use Rattle.marks.proofs.goes_on.Tie as tie
-use Rattle.marks.proofs.goes_on.Reads as reads
-use Rattle.marks.proofs.goes_on.Lts as lts
-use Rattle.marks.proofs.f0_at.Reads as f0-at-reads
 
 f0-at-requires : tie.Need-f0-at-requires
 f0-at-requires c κs = search needs

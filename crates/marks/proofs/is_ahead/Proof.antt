@@ -1,7 +1,5 @@
 use Rattle.marks.proofs.is_ahead.Statement.{statement}
 use Rattle.marks.proofs.is_ahead.Tie as tie
-use Rattle.marks.proofs.is_ahead.Reads as reads
-use Rattle.marks.proofs.is_ahead.Lts as lts
 
 returns : tie.Need-returns
 returns c = simp (c .before .if1 .taken)

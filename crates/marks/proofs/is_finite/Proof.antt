@@ -1,11 +1,8 @@
-use mathlib.Core.Path.{_≡_, ap, sym, _∙_}
-use mathlib.Core.Bool.{false}
-use lib.Ieee.{Float, inf, neg, lt}
+use mathlib.Core.Path.{ap, sym, _∙_}
+use lib.Ieee.{Float, neg, lt}
 use Rattle.marks.proofs.FiniteLaws.{infinity, finite-below, infinite-above}
 use Rattle.marks.proofs.is_finite.Statement.{statement}
 use Rattle.marks.proofs.is_finite.Tie as tie
-use Rattle.marks.proofs.is_finite.Reads as reads
-use Rattle.marks.proofs.is_finite.Lts as lts
 
 returns : tie.Need-returns
 unfolding neg

@@ -1,9 +1,6 @@
 use borrow.Author.Needs.{needs}
 use Rattle.marks.proofs.is_on_way.Statement.{statement}
 use Rattle.marks.proofs.is_on_way.Tie as tie
-use Rattle.marks.proofs.is_on_way.Reads as reads
-use Rattle.marks.proofs.is_on_way.Lts as lts
-use Rattle.marks.proofs.goes_on.Reads as goes-on-reads
 
 goes-on-requires : tie.Need-goes-on-requires
 goes-on-requires c κs = search needs

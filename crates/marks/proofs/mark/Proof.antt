@@ -1,14 +1,8 @@
-use mathlib.Core.Path.{sym}
 use borrow.Author.Tests.{lt-ltb, le-ltb, le-leb, lt-leb}
 use Rattle.marks.specs.Walking.{marked}
 use borrow.Author.Needs.{needs}
 use Rattle.marks.proofs.mark.Statement.{statement}
 use Rattle.marks.proofs.mark.Tie as tie
-use Rattle.marks.proofs.mark.Reads as reads
-use Rattle.marks.proofs.mark.Lts as lts
-use Rattle.marks.proofs.later.Reads as later-reads
-use Rattle.marks.proofs.mark_at.Reads as mark-at-reads
-use Rattle.marks.proofs.next_time.Reads as next-time-reads
 
 next-time-requires : tie.Need-next-time-requires
 next-time-requires c κs = search needs

@@ -2,9 +2,6 @@ use Rattle.marks.specs.PitchMarks.{markAt}
 use borrow.Author.Needs.{needs}
 use Rattle.marks.proofs.mark_at.Statement.{statement}
 use Rattle.marks.proofs.mark_at.Tie as tie
-use Rattle.marks.proofs.mark_at.Reads as reads
-use Rattle.marks.proofs.mark_at.Lts as lts
-use Rattle.float.proofs.f64_to_usize.Reads as f64-to-usize-reads
 
 f64-to-usize-requires : tie.Need-f64-to-usize-requires
 f64-to-usize-requires c κs = search needs

@@ -1,14 +1,10 @@
-use mathlib.Core.Path.{_≡_, refl, sym, subst}
+use mathlib.Core.Path.{sym, subst}
 use native.Mathlib.Omega.{arith}
 use Rattle.marks.specs.Walking.{IsSettled, Steps}
 use Rattle.marks.proofs.WalkLaws.{marked-steps, same-steps}
 use borrow.Author.Needs.{needs}
 use Rattle.marks.proofs.next.Statement.{statement}
 use Rattle.marks.proofs.next.Tie as tie
-use Rattle.marks.proofs.next.Reads as reads
-use Rattle.marks.proofs.next.Lts as lts
-use Rattle.marks.proofs.mark.Reads as mark-reads
-use Rattle.marks.proofs.settle.Reads as settle-reads
 
 settle-requires : tie.Need-settle-requires
 settle-requires c κs = search needs

@@ -1,17 +1,13 @@
 use mathlib.Core.Path.{subst}
 use borrow.Author.Tests.{not-true, not-false}
 use Rattle.marks.specs.Walking.{Advanced}
-use mathlib.Core.Path.{_≡_, refl, sym, ap, _∙_}
+use mathlib.Core.Path.{_≡_, refl, sym, _∙_}
 use borrow.Author.Needs.{needs}
 use native.Mathlib.Omega.{arith}
 use Rattle.marks.specs.Walking.{coming, Reads}
 use Rattle.marks.proofs.WalkLaws.{coming-none}
 use Rattle.marks.proofs.settle.Statement.{statement}
 use Rattle.marks.proofs.settle.Tie as tie
-use Rattle.marks.proofs.settle.Reads as reads
-use Rattle.marks.proofs.settle.Lts as lts
-use Rattle.marks.proofs.advance.Reads as advance-reads
-use Rattle.marks.proofs.is_on_way.Reads as is-on-way-reads
 
 abbrev Inv-loop : tie.InvT-loop
 Inv-loop sheet walk₀ walk = (coming sheet walk ≡ coming sheet walk₀) × Reads sheet walk × (walk .left ≡ walk₀ .left)

@@ -2,10 +2,6 @@ use Rattle.marks.specs.PitchMarks.{slopeOf}
 use borrow.Author.Needs.{needs}
 use Rattle.marks.proofs.slope_to.Statement.{statement}
 use Rattle.marks.proofs.slope_to.Tie as tie
-use Rattle.marks.proofs.slope_to.Reads as reads
-use Rattle.marks.proofs.slope_to.Lts as lts
-use Rattle.float.proofs.f64_to_f32.Reads as f64-to-f32-reads
-use Rattle.std.proofs.num.f32_to_f64_with_nan.Reads as f32-to-f64-with-nan-reads
 
 f64-to-f32-requires : tie.Need-f64-to-f32-requires
 f64-to-f32-requires c κs = search needs

@@ -1,4 +1,4 @@
-use mathlib.Core.Path.{subst, sym, ap, _∙_}
+use mathlib.Core.Path.{_∙_}
 use Rattle.marks.proofs.WalkLaws.{step-left, step-low}
 use Rattle.marks.proofs.StoreLaws.{storing-first, storing-refused, storing-done, storing-room, storing-mark}
 use native.Mathlib.Omega.{arith}
@@ -12,11 +12,6 @@ use Rattle.marks.specs.PitchMarks.{pitchMarks}
 use Rattle.marks.proofs.StoreLaws.{Storing}
 use Rattle.marks.proofs.store_marks.Statement.{statement}
 use Rattle.marks.proofs.store_marks.Tie as tie
-use Rattle.marks.proofs.store_marks.Reads as reads
-use Rattle.marks.proofs.store_marks.Lts as lts
-use Rattle.base.proofs.bytes.put_u32.Reads as put-u32-reads
-use Rattle.marks.proofs.fresh.Reads as fresh-reads
-use Rattle.marks.proofs.next.Reads as next-reads
 
 abbrev Inv-loop : tie.InvT-loop
 Inv-loop sheet rate marks₀ walk₀ i₀ marks walk i = Storing sheet walk marks i (over (flat (bytesOf 4) (pitchMarks rate (sheetOf sheet .targets) .marks)) marks₀) × (length marks ≡ length marks₀)

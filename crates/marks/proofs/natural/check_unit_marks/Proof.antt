@@ -1,5 +1,5 @@
-use mathlib.Core.Path.{_≡_, refl, sym, ap, _∙_}
-use Prim.Native.Nat.{ℕ, _+_, _-_, _≤_, _<_}
+use mathlib.Core.Path.{_≡_, refl, sym, _∙_}
+use Prim.Native.Nat.{_+_, _-_, _≤_}
 use native.Mathlib.Omega.{arith}
 use borrow.Author.Needs.{needs}
 use Rattle.voice.specs.Voice.{voiceOf}
@@ -8,9 +8,6 @@ use Rattle.marks.specs.Checking.{unitMarks}
 use Rattle.marks.proofs.UnitLaws.{unit-none, unit-full, unit-past, unit-more}
 use Rattle.marks.proofs.natural.check_unit_marks.Statement.{statement}
 use Rattle.marks.proofs.natural.check_unit_marks.Tie as tie
-use Rattle.marks.proofs.natural.check_unit_marks.Reads as reads
-use Rattle.marks.proofs.natural.check_unit_marks.Lts as lts
-use Rattle.voice.proofs.periods.period_samples.Reads as period-samples-reads
 
 abbrev Inv-loop : tie.InvT-loop
 Inv-loop file d place first last left end₀ allowed₀ p₀ end allowed p = (unitMarks (voiceOf file) end p (last - p) allowed ≡ unitMarks (voiceOf file) place first (last - first) left) × (end ≤ 16777215)

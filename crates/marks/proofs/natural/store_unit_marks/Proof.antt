@@ -1,23 +1,18 @@
-use mathlib.Core.Path.{_≡_, refl, sym, ap, subst, _∙_}
-use mathlib.Core.List.{List}
-use Prim.Native.Nat.{ℕ, _+_, _-_, _*_, _≤_, _<_}
+use mathlib.Core.Path.{_≡_, refl, _∙_}
+use Prim.Native.Nat.{_+_, _-_, _*_}
 use native.Mathlib.Omega.{arith}
 use borrow.Author.Needs.{needs}
 use lib.ListN.{length}
-use lib.Seq.{sets, length-sets}
+use lib.Seq.{sets}
 use Rattle.base.specs.Buffers.{flat}
 use Rattle.base.specs.Bytes.{bytesOf}
 use Rattle.voice.specs.Voice.{voiceOf}
-use Rattle.voice.specs.Periods.{samplesOf, samplesFrom}
+use Rattle.voice.specs.Periods.{samplesFrom}
 use Rattle.marks.specs.NaturalMarks.{marksOfPeriods}
 use Rattle.marks.proofs.StoreLaws.{UnitStoring, unit-stored, unit-room, unit-low, unit-storing}
 use Rattle.marks.proofs.StoreLaws.{unit-first}
 use Rattle.marks.proofs.natural.store_unit_marks.Statement.{statement}
 use Rattle.marks.proofs.natural.store_unit_marks.Tie as tie
-use Rattle.marks.proofs.natural.store_unit_marks.Reads as reads
-use Rattle.marks.proofs.natural.store_unit_marks.Lts as lts
-use Rattle.base.proofs.bytes.put_u32.Reads as put-u32-reads
-use Rattle.voice.proofs.periods.period_samples.Reads as period-samples-reads
 
 abbrev Inv-loop : tie.InvT-loop
 Inv-loop file d place first last index marks₀ end₀ i₀ p₀ marks end i p =
