@@ -8,3 +8,5 @@ pub mod CheckLaws
 pub mod StoreLaws
 pub mod UnitLaws
 pub mod JoinLaws
+pub mod TimeLaws
+pub mod RiseLaws

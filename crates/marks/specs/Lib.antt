@@ -3,3 +3,4 @@ pub mod PitchMarks
 pub mod NaturalMarks
 pub mod Walking
 pub mod Checking
+pub mod Rising

@@ -273,7 +273,8 @@ fn next(sheet: &[u8], w: Walk) -> Step
     }
 }
 
-// The walk before the first target, at a rate in samples per second.
+// The walk before the first target, at a rate in samples per second: the first f0 is 120, and
+// 65,536 marks are allowed.
 fn fresh(places: Places, rate: u32) -> Walk
     ensures { λ r. ⌜ r ≡ walking.freshWalk places rate ⌝ }
 {

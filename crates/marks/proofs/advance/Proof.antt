@@ -1,5 +1,5 @@
-use Rattle.marks.proofs.WalkLaws.{target-there, advanced}
 use borrow.Author.Needs.{needs}
+use Rattle.marks.proofs.WalkLaws.{target-there, advanced}
 use Rattle.marks.proofs.advance.Statement.{statement}
 use Rattle.marks.proofs.advance.Tie as tie
 

@@ -1,7 +1,7 @@
 use mathlib.Core.Path.{sym, _∙_}
+use borrow.Author.Needs.{needs}
 use lib.Ieee.{ofBits}
 use Rattle.marks.specs.Walking.{aimed}
-use borrow.Author.Needs.{needs}
 use Rattle.marks.proofs.aim.Statement.{statement}
 use Rattle.marks.proofs.aim.Tie as tie
 

@@ -1,9 +1,8 @@
 use mathlib.Core.Path.{_∙_}
-use Rattle.marks.proofs.WalkLaws.{step-left}
-use Rattle.marks.proofs.CheckLaws.{counting-refused, counting-done, counting-mark, counting-first, counting-all}
 use native.Mathlib.Omega.{arith}
 use borrow.Author.Needs.{needs}
-use Rattle.marks.proofs.CheckLaws.{Counting}
+use Rattle.marks.proofs.WalkLaws.{step-left}
+use Rattle.marks.proofs.CheckLaws.{counting-refused, counting-done, counting-mark, counting-first, counting-all, Counting}
 use Rattle.marks.proofs.check_marks.Statement.{statement}
 use Rattle.marks.proofs.check_marks.Tie as tie
 

@@ -1,5 +1,5 @@
-use lib.Ieee.{ofBits}
 use borrow.Author.Needs.{needs}
+use lib.Ieee.{ofBits}
 use Rattle.marks.proofs.fresh.Statement.{statement}
 use Rattle.marks.proofs.fresh.Tie as tie
 

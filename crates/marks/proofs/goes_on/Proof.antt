@@ -1,6 +1,6 @@
+use borrow.Author.Needs.{needs}
 use lib.Ieee.{ofBits}
 use Rattle.marks.specs.PitchMarks.{goesOn}
-use borrow.Author.Needs.{needs}
 use Rattle.marks.proofs.goes_on.Statement.{statement}
 use Rattle.marks.proofs.goes_on.Tie as tie
 

@@ -1,6 +1,6 @@
 use borrow.Author.Tests.{lt-ltb, le-ltb, le-leb, lt-leb}
-use Rattle.marks.specs.Walking.{marked}
 use borrow.Author.Needs.{needs}
+use Rattle.marks.specs.Walking.{marked}
 use Rattle.marks.proofs.mark.Statement.{statement}
 use Rattle.marks.proofs.mark.Tie as tie
 

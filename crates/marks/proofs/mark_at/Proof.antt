@@ -1,5 +1,5 @@
-use Rattle.marks.specs.PitchMarks.{markAt}
 use borrow.Author.Needs.{needs}
+use Rattle.marks.specs.PitchMarks.{markAt}
 use Rattle.marks.proofs.mark_at.Statement.{statement}
 use Rattle.marks.proofs.mark_at.Tie as tie
 

@@ -1,8 +1,8 @@
 use mathlib.Core.Path.{sym, subst}
 use native.Mathlib.Omega.{arith}
+use borrow.Author.Needs.{needs}
 use Rattle.marks.specs.Walking.{IsSettled, Steps}
 use Rattle.marks.proofs.WalkLaws.{marked-steps, same-steps}
-use borrow.Author.Needs.{needs}
 use Rattle.marks.proofs.next.Statement.{statement}
 use Rattle.marks.proofs.next.Tie as tie
 

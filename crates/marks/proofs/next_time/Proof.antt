@@ -1,6 +1,6 @@
+use borrow.Author.Needs.{needs}
 use lib.Ieee.{ofBits}
 use Rattle.marks.specs.PitchMarks.{nextTime}
-use borrow.Author.Needs.{needs}
 use Rattle.marks.proofs.next_time.Statement.{statement}
 use Rattle.marks.proofs.next_time.Tie as tie
 

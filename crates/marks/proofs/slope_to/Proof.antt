@@ -1,5 +1,5 @@
-use Rattle.marks.specs.PitchMarks.{slopeOf}
 use borrow.Author.Needs.{needs}
+use Rattle.marks.specs.PitchMarks.{slopeOf}
 use Rattle.marks.proofs.slope_to.Statement.{statement}
 use Rattle.marks.proofs.slope_to.Tie as tie
 

@@ -1,15 +1,13 @@
-use mathlib.Core.Path.{_∙_}
-use Rattle.marks.proofs.WalkLaws.{step-left, step-low}
-use Rattle.marks.proofs.StoreLaws.{storing-first, storing-refused, storing-done, storing-room, storing-mark}
+use mathlib.Core.Path.{_∙_, _≡_, refl}
 use native.Mathlib.Omega.{arith}
 use borrow.Author.Needs.{needs}
+use lib.ListN.{length}
 use Rattle.base.specs.Buffers.{over, flat}
 use Rattle.base.specs.Bytes.{bytesOf}
-use mathlib.Core.Path.{_≡_, refl}
-use lib.ListN.{length}
 use Rattle.sheet.specs.Sheet.{sheetOf}
 use Rattle.marks.specs.PitchMarks.{pitchMarks}
-use Rattle.marks.proofs.StoreLaws.{Storing}
+use Rattle.marks.proofs.WalkLaws.{step-left, step-low}
+use Rattle.marks.proofs.StoreLaws.{storing-first, storing-refused, storing-done, storing-room, storing-mark, Storing}
 use Rattle.marks.proofs.store_marks.Statement.{statement}
 use Rattle.marks.proofs.store_marks.Tie as tie
 

@@ -9,8 +9,7 @@ use Rattle.base.specs.Bytes.{bytesOf}
 use Rattle.voice.specs.Voice.{voiceOf}
 use Rattle.voice.specs.Periods.{samplesFrom}
 use Rattle.marks.specs.NaturalMarks.{marksOfPeriods}
-use Rattle.marks.proofs.StoreLaws.{UnitStoring, unit-stored, unit-room, unit-low, unit-storing}
-use Rattle.marks.proofs.StoreLaws.{unit-first}
+use Rattle.marks.proofs.StoreLaws.{UnitStoring, unit-stored, unit-room, unit-low, unit-storing, unit-first}
 use Rattle.marks.proofs.natural.store_unit_marks.Statement.{statement}
 use Rattle.marks.proofs.natural.store_unit_marks.Tie as tie
 
