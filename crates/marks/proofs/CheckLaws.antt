@@ -1,7 +1,7 @@
 -- The loop that checks pitch marks.
 use mathlib.Core.Path.{_≡_, refl, sym, ap, _∙_}
 use mathlib.Core.List.{List}
-use mathlib.Core.Option.{none, some}
+use mathlib.Core.Option.{Option, none, some}
 use Prim.Native.Nat.{ℕ, suc, _+_, _≤_}
 use native.Mathlib.Omega.{arith}
 use lib.ListN.{length}
@@ -81,3 +81,21 @@ module _ (sheet : List ℕ) (p : Places) (rate : ℕ) (w : Walk) (e : answerIn (
 
   pub counting-all : answerFrom 0 0 (coming sheet w) ≡ checkedMarks (pitchMarks rate (sheetOf sheet .targets))
   counting-all = ap (answerFrom 0 0) (fresh-coming sheet p rate w e f .0) ∙ answer-whole (pitchMarks rate (sheetOf sheet .targets))
+
+-- ---- what an answer says
+
+pub checked-refused : (m : Made) (r : Refusal) → checkedMarks m ≡ checked.Refused r → m .refusal ≡ some r
+unfolding checkedMarks
+checked-refused m r e = by (m .refusal) e
+  where
+    by : (o : Option Refusal) → answered o (length (m .marks)) (lastOf 0 (m .marks)) ≡ checked.Refused r → o ≡ some r
+    by none e = let z : _≡_ {A = ℕ} 0 1 = cc in absurd (omega arith)
+    by (some c) e = cc
+
+pub checked-made : (m : Made) (count last : ℕ) → checkedMarks m ≡ checked.Made count last → (m .refusal ≡ none) × (length (m .marks) ≡ count) × (lastOf 0 (m .marks) ≡ last)
+unfolding checkedMarks
+checked-made m count last e = by (m .refusal) e
+  where
+    by : (o : Option Refusal) → answered o (length (m .marks)) (lastOf 0 (m .marks)) ≡ checked.Made count last → (o ≡ none) × (length (m .marks) ≡ count) × (lastOf 0 (m .marks) ≡ last)
+    by none e = (refl, cc, cc)
+    by (some c) e = let z : _≡_ {A = ℕ} 0 1 = cc in absurd (omega arith)

@@ -57,7 +57,7 @@ abbrev markOf : Float → Float → ℕ
 markOf rate time = toUnsigned 64 (mul binary64 rate time)
 
 module _ (rate : Float) (n : ℕ) (v : HasValue rate false n 1) (some-rate : 0 < n) where
-  -- the marks up to a target rise from the markOf rate at the time before them to the one at the time after them
+  -- the marks up to a target rise from the mark at the time before them to the one at the time after them
   record Risen (time : Float) (c : Climb) : Type 0 where
     rising : Rising (markOf rate time) (c .marks)
     last : lastOf (markOf rate time) (c .marks) ≡ markOf rate (c .time)

@@ -117,7 +117,9 @@ fn mark_at(w: Walk, time: f64) -> usize
 fn slope_to(w: Walk, position: f64, f0: f64) -> f64
     ensures { λ r. ⌜ r ≡ pitch.slopeOf (stageOf w) position f0 ⌝ }
 {
-    std::num::f32_to_f64_with_nan(float::f64_to_f32((f0 - w.f0) / (position - w.position)))
+    let rise = f0 - w.f0;
+    let run = position - w.position;
+    std::num::f32_to_f64_with_nan(float::f64_to_f32(rise / run))
 }
 
 // Whether x is neither an infinity nor a NaN.

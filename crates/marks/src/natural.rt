@@ -14,8 +14,8 @@ use super::UnitMarks;
 use refusal::Refusal;
 use voice::DiphoneVoice;
 
-// Makes the marks of the periods from first to last, the first of which begins at a place, and
-// writes none; `left` marks are allowed.
+// Makes the marks of the periods from `first` on and before `last`, and writes none. The first
+// period begins at a place; `left` marks are allowed.
 pub fn check_unit_marks(
     file: &[u8],
     d: DiphoneVoice,
@@ -45,8 +45,8 @@ pub fn check_unit_marks(
     UnitMarks::To(end, allowed)
 }
 
-// Stores those marks, four bytes each, from element `index` of a buffer on. The place after the
-// unit.
+// Stores those marks, four bytes each, from element `index` of a buffer on, and answers the place
+// after the unit.
 pub fn store_unit_marks(
     file: &[u8],
     d: DiphoneVoice,
