@@ -2,3 +2,11 @@
 pub mod MarkLaws
 pub mod CountLaws
 pub mod LimitLaws
+pub mod FiniteLaws
+pub mod WalkLaws
+pub mod CheckLaws
+pub mod StoreLaws
+pub mod UnitLaws
+pub mod JoinLaws
+pub mod TimeLaws
+pub mod RiseLaws

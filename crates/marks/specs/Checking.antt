@@ -1,0 +1,66 @@
+-- What the checks of a call's marks answer, and what is asked where they are stored.
+use mathlib.Core.Path.{_≡_}
+use mathlib.Core.List.{List, [], _∷_}
+use mathlib.Core.Option.{Option, none, some}
+use Prim.Native.Nat.{ℕ, _+_, _-_, _*_, _≤_}
+use lib.ListN.{length}
+use Rattle.refusal.specs.declared.Refusal.{Refusal}
+use Rattle.sheet.specs.declared.Places.{Places}
+use Rattle.sheet.specs.declared.SheetAnswer.the-variants.{Read}
+use Rattle.sheet.specs.Sheet.{sheetOf}
+use Rattle.sheet.specs.Places.{answerIn, sheetPlaces}
+use Rattle.voice.specs.declared.DiphoneVoice.{DiphoneVoice}
+use Rattle.voice.specs.Voice.{Voice, voiceOf}
+use Rattle.voice.specs.Periods.{samplesFrom}
+use Rattle.voice.specs.Opening.{IsOpen}
+use Rattle.units.specs.Units.{limit}
+use Rattle.marks.specs.declared.CheckedMarks.{CheckedMarks}
+use Rattle.marks.specs.declared.CheckedMarks.the-variants as checked
+use Rattle.marks.specs.declared.UnitMarks.{UnitMarks}
+use Rattle.marks.specs.declared.UnitMarks.the-variants as unit
+use Rattle.marks.specs.NaturalMarks.{marksOfPeriods, markRefusal}
+use Rattle.marks.specs.PitchMarks.{Made, mostMarks, pitchMarks}
+
+-- the last of some marks, or m where there is none
+unfoldable pub lastOf : ℕ → List ℕ → ℕ
+lastOf m [] = m
+lastOf m (n ∷ ns) = lastOf n ns
+
+abbrev pub answered : Option Refusal → ℕ → ℕ → CheckedMarks
+answered none count last = checked.Made count last
+answered (some r) count last = checked.Refused r
+
+-- the refusal, or how many marks there are and the last one, 0 where there is none
+unfoldable pub checkedMarks : Made → CheckedMarks
+checkedMarks m = answered (m .refusal) (length (m .marks)) (lastOf 0 (m .marks))
+
+abbrev pub Bounded : CheckedMarks → Type 0
+Bounded (checked.Made count last) = (count ≤ mostMarks) × (last ≤ limit)
+Bounded (checked.Refused r) = Unit
+
+-- the sheet was read, its marks are not refused, and they fit n bytes, four each
+pub record CanStore (sheet : List ℕ) (p : Places) (rate n : ℕ) : Type 0 where
+  pub places : answerIn (sheetPlaces sheet) ≡ Read p
+  pub spoken : pitchMarks rate (sheetOf sheet .targets) .refusal ≡ none
+  pub room : 4 * length (pitchMarks rate (sheetOf sheet .targets) .marks) ≤ n
+
+-- ---- the simple join, unit by unit
+
+abbrev pub unitAnswered : Option Refusal → ℕ → ℕ → UnitMarks
+unitAnswered none place left = unit.To place left
+unitAnswered (some r) place left = unit.Refused r
+
+-- n periods from p on, the first of which begins at a place, with `left` marks allowed: the refusal, or the place after them and the marks still allowed
+unfoldable pub unitMarks : Voice → ℕ → ℕ → ℕ → ℕ → UnitMarks
+unitMarks v place p n left = unitAnswered (markRefusal left (marksOfPeriods v place p n)) (place + samplesFrom v p n) (left - n)
+
+abbrev pub LowPlace : UnitMarks → Type 0
+LowPlace (unit.To place left) = place ≤ limit
+LowPlace (unit.Refused r) = Unit
+
+-- an open voice has the periods, none of their marks is above the limit, and they fit a buffer of n bytes from element `index` on
+pub record CanStoreUnit (file : List ℕ) (d : DiphoneVoice) (place first last index n : ℕ) : Type 0 where
+  pub opens : IsOpen file d
+  pub within : last ≤ d .header .frames
+  pub low : place + samplesFrom (voiceOf file) first (last - first) ≤ limit
+  pub room : 4 * index + 4 * (last - first) ≤ n
