@@ -1,6 +1,5 @@
 use Prim.Native.Nat.{_/_, _-_}
 use native.Mathlib.Omega.{arith}
-use borrow.Author.Needs.{needs}
 use lib.ListN.{length}
 use Rattle.vectors.proofs.TallyLaws.{At, start, room, turn, end}
 use Rattle.vectors.specs.Vectors.{periodAt}
@@ -14,13 +13,13 @@ abbrev μ-loop : tie.MeasureT-loop
 μ-loop periods codes words want t₀ i₀ t i = length periods / 4 - i
 
 none-requires : tie.Need-none-requires Inv-loop μ-loop
-none-requires c κs = search needs
+none-requires c κs = omega arith
 
 loop-holds : tie.Need-loop-holds Inv-loop μ-loop
 loop-holds c = start _ _ _ (c .none .ensures)
 
 period-at-requires : tie.Need-period-at-requires Inv-loop μ-loop
-period-at-requires c κs = search needs
+period-at-requires c κs = omega arith
 
 joined-requires : tie.Need-joined-requires Inv-loop μ-loop
 joined-requires c κs =
@@ -28,10 +27,10 @@ joined-requires c κs =
     room _ _ _ (l .i) (l .inv) (omega arith) (omega arith) (c .period-at .ensures .1)
 
 add-i : tie.Need-add-i Inv-loop μ-loop
-add-i c = search needs
+add-i c = omega arith
 
 loop-less : tie.Need-loop-less Inv-loop μ-loop
-loop-less c = search needs
+loop-less c = omega arith
 
 loop-again : tie.Need-loop-again Inv-loop μ-loop
 loop-again c =

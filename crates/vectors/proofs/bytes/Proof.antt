@@ -1,6 +1,5 @@
 use Prim.Native.Nat.{_-_}
 use native.Mathlib.Omega.{arith}
-use borrow.Author.Needs.{needs}
 use Rattle.vectors.proofs.TallyLaws.{At, start, room, turn, end}
 use Rattle.vectors.specs.Vectors.{byte}
 use Rattle.vectors.proofs.bytes.Statement.{statement}
@@ -13,19 +12,19 @@ abbrev μ-loop : tie.MeasureT-loop
 μ-loop got want n t₀ k₀ t k = n - k
 
 none-requires : tie.Need-none-requires Inv-loop μ-loop
-none-requires c κs = search needs
+none-requires c κs = omega arith
 
 loop-holds : tie.Need-loop-holds Inv-loop μ-loop
 loop-holds c = start _ _ _ (c .none .ensures)
 
 shared-slice-read-one : tie.Need-shared-slice-read-one Inv-loop μ-loop
-shared-slice-read-one c = search needs
+shared-slice-read-one c = omega arith
 
 shared-slice-read-one-2 : tie.Need-shared-slice-read-one-2 Inv-loop μ-loop
-shared-slice-read-one-2 c = search needs
+shared-slice-read-one-2 c = omega arith
 
 one-requires : tie.Need-one-requires Inv-loop μ-loop
-one-requires c κs = search needs
+one-requires c κs = omega arith
 
 joined-requires : tie.Need-joined-requires Inv-loop μ-loop
 joined-requires c κs =
@@ -33,10 +32,10 @@ joined-requires c κs =
     room _ _ _ (l .k) (l .inv) (omega arith) (omega arith) (c .one .ensures .1)
 
 add-k : tie.Need-add-k Inv-loop μ-loop
-add-k c = search needs
+add-k c = omega arith
 
 loop-less : tie.Need-loop-less Inv-loop μ-loop
-loop-less c = search needs
+loop-less c = omega arith
 
 loop-again : tie.Need-loop-again Inv-loop μ-loop
 loop-again c =

@@ -1,24 +1,24 @@
+use native.Mathlib.Omega.{arith}
 use mathlib.Core.Path.{ap, _∙_}
 use mir.Facts.{toZ-ofZ}
 use mir.Syntax.{w16}
 use mir.Val.{SFits}
 use Rattle.base.specs.Words.{low}
 use Rattle.vectors.proofs.VectorLaws.{one-same}
-use borrow.Author.Needs.{needs}
 use Rattle.vectors.proofs.decoding.Statement.{statement}
 use Rattle.vectors.proofs.decoding.Tie as tie
 
 ulaw-to-i16-requires : tie.Need-ulaw-to-i16-requires
-ulaw-to-i16-requires c κs = search needs
+ulaw-to-i16-requires c κs = omega arith
 
 i16-to-word-requires : tie.Need-i16-to-word-requires
-i16-to-word-requires c κs = search needs
+i16-to-word-requires c κs = omega arith
 
 u16-at-requires : tie.Need-u16-at-requires
-u16-at-requires c κs = search needs
+u16-at-requires c κs = omega arith
 
 one-requires : tie.Need-one-requires
-one-requires c κs = search needs
+one-requires c κs = omega arith
 
 returns : tie.Need-returns
 returns c =

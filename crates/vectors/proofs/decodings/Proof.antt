@@ -1,6 +1,5 @@
 use Prim.Native.Nat.{_-_}
 use native.Mathlib.Omega.{arith}
-use borrow.Author.Needs.{needs}
 use Rattle.vectors.proofs.TallyLaws.{At, start, room, turn, end}
 use Rattle.vectors.specs.Vectors.{decoding}
 use Rattle.vectors.proofs.decodings.Statement.{statement}
@@ -13,16 +12,16 @@ abbrev μ-loop : tie.MeasureT-loop
 μ-loop words t₀ byte₀ t byte = 256 - byte
 
 none-requires : tie.Need-none-requires Inv-loop μ-loop
-none-requires c κs = search needs
+none-requires c κs = omega arith
 
 loop-holds : tie.Need-loop-holds Inv-loop μ-loop
 loop-holds c = start _ _ _ (c .none .ensures)
 
 cast-decoding : tie.Need-cast-decoding Inv-loop μ-loop
-cast-decoding c = search needs
+cast-decoding c = omega arith
 
 decoding-requires : tie.Need-decoding-requires Inv-loop μ-loop
-decoding-requires c κs = search needs
+decoding-requires c κs = omega arith
 
 joined-requires : tie.Need-joined-requires Inv-loop μ-loop
 joined-requires c κs =
@@ -30,10 +29,10 @@ joined-requires c κs =
     room _ _ _ (l .byte) (l .inv) (omega arith) (omega arith) (c .decoding .ensures .1)
 
 add-byte : tie.Need-add-byte Inv-loop μ-loop
-add-byte c = search needs
+add-byte c = omega arith
 
 loop-less : tie.Need-loop-less Inv-loop μ-loop
-loop-less c = search needs
+loop-less c = omega arith
 
 loop-again : tie.Need-loop-again Inv-loop μ-loop
 loop-again c =

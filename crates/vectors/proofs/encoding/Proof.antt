@@ -1,3 +1,4 @@
+use native.Mathlib.Omega.{arith}
 use mathlib.Core.Path.{refl, ap, _∙_}
 use mir.Facts.{toZ-ofZ}
 use mir.Syntax.{w16}
@@ -5,27 +6,26 @@ use mir.Val.{SFits}
 use Rattle.base.specs.Words.{signed16}
 use Rattle.ulaw.specs.Ulaw.{ulawOf}
 use Rattle.vectors.proofs.VectorLaws.{one-same}
-use borrow.Author.Needs.{needs}
 use Rattle.vectors.proofs.encoding.Statement.{statement}
 use Rattle.vectors.proofs.encoding.Tie as tie
 
 cast-low16 : tie.Need-cast-low16
-cast-low16 c = search needs
+cast-low16 c = omega arith
 
 add-low16 : tie.Need-add-low16
-add-low16 c = search needs
+add-low16 c = omega arith
 
 low16-requires : tie.Need-low16-requires
-low16-requires c κs = search needs
+low16-requires c κs = omega arith
 
 word-to-i16-requires : tie.Need-word-to-i16-requires
-word-to-i16-requires c κs = search needs
+word-to-i16-requires c κs = omega arith
 
 i16-to-ulaw-requires : tie.Need-i16-to-ulaw-requires
-i16-to-ulaw-requires c κs = search needs
+i16-to-ulaw-requires c κs = omega arith
 
 one-requires : tie.Need-one-requires
-one-requires c κs = search needs
+one-requires c κs = omega arith
 
 returns : tie.Need-returns
 returns c =

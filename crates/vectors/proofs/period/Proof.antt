@@ -1,29 +1,29 @@
+use native.Mathlib.Omega.{arith}
 use Rattle.vectors.proofs.TallyLaws.{joined-within}
 use Rattle.vectors.proofs.VectorLaws.{period-of}
-use borrow.Author.Needs.{needs}
 use Rattle.vectors.proofs.period.Statement.{statement}
 use Rattle.vectors.proofs.period.Tie as tie
 
 slice-aggregate-decode-adpcm : tie.Need-slice-aggregate-decode-adpcm
-slice-aggregate-decode-adpcm c = search needs
+slice-aggregate-decode-adpcm c = omega arith
 
 decode-adpcm-requires : tie.Need-decode-adpcm-requires
-decode-adpcm-requires c κs = search needs
+decode-adpcm-requires c κs = omega arith
 
 samples-requires : tie.Need-samples-requires
-samples-requires c κs = search needs
+samples-requires c κs = omega arith
 
 slice-aggregate-bytes : tie.Need-slice-aggregate-bytes
-slice-aggregate-bytes c = search needs
+slice-aggregate-bytes c = omega arith
 
 mul-bytes : tie.Need-mul-bytes
-mul-bytes c = search needs
+mul-bytes c = omega arith
 
 bytes-requires : tie.Need-bytes-requires
-bytes-requires c κs = search needs
+bytes-requires c κs = omega arith
 
 joined-requires : tie.Need-joined-requires
-joined-requires c κs = search needs
+joined-requires c κs = omega arith
 
 returns : tie.Need-returns
 returns c =

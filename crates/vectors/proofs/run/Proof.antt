@@ -1,6 +1,5 @@
 use Prim.Native.Nat.{_-_}
 use native.Mathlib.Omega.{arith}
-use borrow.Author.Needs.{needs}
 use Rattle.vectors.proofs.TallyLaws.{At, start, room, turn, end}
 use Rattle.vectors.specs.Vectors.{encoding}
 use Rattle.vectors.proofs.run.Statement.{statement}
@@ -13,13 +12,13 @@ abbrev μ-loop : tie.MeasureT-loop
 μ-loop word byte count t₀ k₀ t k = count - k
 
 none-requires : tie.Need-none-requires Inv-loop μ-loop
-none-requires c κs = search needs
+none-requires c κs = omega arith
 
 loop-holds : tie.Need-loop-holds Inv-loop μ-loop
 loop-holds c = start _ _ _ (c .none .ensures)
 
 encoding-requires : tie.Need-encoding-requires Inv-loop μ-loop
-encoding-requires c κs = search needs
+encoding-requires c κs = omega arith
 
 joined-requires : tie.Need-joined-requires Inv-loop μ-loop
 joined-requires c κs =
@@ -27,10 +26,10 @@ joined-requires c κs =
     room _ _ _ (l .k) (l .inv) (omega arith) (omega arith) (c .encoding .ensures .1)
 
 add-k : tie.Need-add-k Inv-loop μ-loop
-add-k c = search needs
+add-k c = omega arith
 
 loop-less : tie.Need-loop-less Inv-loop μ-loop
-loop-less c = search needs
+loop-less c = omega arith
 
 loop-again : tie.Need-loop-again Inv-loop μ-loop
 loop-again c =

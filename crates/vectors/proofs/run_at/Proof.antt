@@ -1,37 +1,37 @@
+use native.Mathlib.Omega.{arith}
 use Rattle.vectors.proofs.VectorLaws.{run-of}
-use borrow.Author.Needs.{needs}
 use Rattle.vectors.proofs.run_at.Statement.{statement}
 use Rattle.vectors.proofs.run_at.Tie as tie
 
 mul-read-u16 : tie.Need-mul-read-u16
-mul-read-u16 c = search needs
+mul-read-u16 c = omega arith
 
 read-u16-requires : tie.Need-read-u16-requires
-read-u16-requires c κs = search needs
+read-u16-requires c κs = omega arith
 
 mul-read-u16-2 : tie.Need-mul-read-u16-2
-mul-read-u16-2 c = search needs
+mul-read-u16-2 c = omega arith
 
 add-read-u16 : tie.Need-add-read-u16
-add-read-u16 c = search needs
+add-read-u16 c = omega arith
 
 read-u16-requires-2 : tie.Need-read-u16-requires-2
-read-u16-requires-2 c κs = search needs
+read-u16-requires-2 c κs = omega arith
 
 cast-count : tie.Need-cast-count
-cast-count c = search needs
+cast-count c = omega arith
 
 mul-run : tie.Need-mul-run
-mul-run c = search needs
+mul-run c = omega arith
 
 add-run : tie.Need-add-run
-add-run c = search needs
+add-run c = omega arith
 
 shared-slice-read-run : tie.Need-shared-slice-read-run
-shared-slice-read-run c = search needs
+shared-slice-read-run c = omega arith
 
 run-requires : tie.Need-run-requires
-run-requires c κs = search needs
+run-requires c κs = omega arith
 
 returns : tie.Need-returns
 returns c =

@@ -1,6 +1,5 @@
 use Prim.Native.Nat.{_*_, _-_}
 use native.Mathlib.Omega.{arith}
-use borrow.Author.Needs.{needs}
 use lib.ListN.{length}
 use Rattle.vectors.proofs.TallyLaws.{At, start, room, turn, end}
 use mathlib.Core.Path.{_≡_}
@@ -18,25 +17,25 @@ abbrev μ-loop : tie.MeasureT-loop
 μ-loop packed words t₀ state₀ k₀ t state k = 2 * length packed - k
 
 none-requires : tie.Need-none-requires Inv-loop μ-loop
-none-requires c κs = search needs
+none-requires c κs = omega arith
 
 fresh-requires : tie.Need-fresh-requires Inv-loop μ-loop
-fresh-requires c κs = search needs
+fresh-requires c κs = omega arith
 
 loop-holds : tie.Need-loop-holds Inv-loop μ-loop
 loop-holds c = (start _ _ _ (c .before .none .ensures), (state-first (c .before .before .before .before .args .packed .now) (c .fresh .ensures .0), c .fresh .ensures .1))
 
 mul-loop : tie.Need-mul-loop Inv-loop μ-loop
-mul-loop c = search needs
+mul-loop c = omega arith
 
 code-at-requires : tie.Need-code-at-requires Inv-loop μ-loop
-code-at-requires c κs = search needs
+code-at-requires c κs = omega arith
 
 signals-of-requires : tie.Need-signals-of-requires Inv-loop μ-loop
-signals-of-requires c κs = search needs
+signals-of-requires c κs = omega arith
 
 sample-requires : tie.Need-sample-requires Inv-loop μ-loop
-sample-requires c κs = search needs
+sample-requires c κs = omega arith
 
 joined-requires : tie.Need-joined-requires Inv-loop μ-loop
 joined-requires c κs =
@@ -44,7 +43,7 @@ joined-requires c κs =
     room _ _ _ (l .k) (l .inv .0) (omega arith) (omega arith) (c .sample .ensures .1)
 
 next-of-requires : tie.Need-next-of-requires Inv-loop μ-loop
-next-of-requires c κs = search needs
+next-of-requires c κs = omega arith
 
 add-k : tie.Need-add-k Inv-loop μ-loop
 add-k c =
@@ -52,7 +51,7 @@ add-k c =
     omega (arith, t .loop-test .taken, t .before .before .before .before .before .before .pre .0)
 
 loop-less : tie.Need-loop-less Inv-loop μ-loop
-loop-less c = search needs
+loop-less c = omega arith
 
 loop-again : tie.Need-loop-again Inv-loop μ-loop
 loop-again c =

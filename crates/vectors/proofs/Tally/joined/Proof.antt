@@ -1,18 +1,18 @@
+use native.Mathlib.Omega.{arith}
 use mathlib.Core.Path.{ap}
 use Prim.Native.Nat.{ℕ, _+_}
 use Rattle.vectors.specs.Tallies.{joined}
-use borrow.Author.Needs.{needs}
 use Rattle.vectors.proofs.Tally.joined.Statement.{statement}
 use Rattle.vectors.proofs.Tally.joined.Tie as tie
 
 first-with-requires : tie.Need-first-with-requires
-first-with-requires c κs = search needs
+first-with-requires c κs = omega arith
 
 add-t4 : tie.Need-add-t4
-add-t4 c = search needs
+add-t4 c = omega arith
 
 add-t5 : tie.Need-add-t5
-add-t5 c = search needs
+add-t5 c = omega arith
 
 returns : tie.Need-returns
 unfolding joined
