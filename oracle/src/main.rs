@@ -24,6 +24,8 @@ mod report;
 mod rng;
 mod selfcheck;
 mod sheet;
+#[cfg(feature = "probe")]
+mod speech;
 mod statements;
 mod voicefile;
 
