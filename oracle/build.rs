@@ -36,8 +36,10 @@ fn main() {
     }
     write(&out.join("root.rs"), &root);
 
-    if env::var_os("CARGO_FEATURE_PROBE").is_some() {
-        link(&manifest, "probe");
+    for (feature, name) in [("PROBE", "probe"), ("PROBE_STATE", "probe_state")] {
+        if env::var_os(format!("CARGO_FEATURE_{feature}")).is_some() {
+            link(&manifest, name);
+        }
     }
 }
 

@@ -7,6 +7,8 @@ use crate::dsp;
 use crate::probe;
 use crate::rng::Rng;
 use crate::speech::Speech;
+#[cfg(feature = "probe_state")]
+use crate::states;
 use std::time::{Duration, Instant};
 
 /// Codes in a run that is not told otherwise.
@@ -29,6 +31,10 @@ pub fn run(args: &Args) -> bool {
     let count = args.count.unwrap_or(COUNT).max(1);
     println!("oracle codecs: seed {}, count {count}", args.seed);
     let mut agreed = bytes_and_samples();
+    #[cfg(feature = "probe_state")]
+    {
+        agreed &= states::agree(args.seed);
+    }
     let mut tally = Tally::default();
     for code in 0..16u8 {
         tally.compare("held", &[vec![code << 4 | code; HELD]]);
@@ -93,7 +99,7 @@ fn bytes_and_samples() -> bool {
 }
 
 /// The packed codes of a period, and what kind they are.
-fn period(rng: &mut Rng) -> (&'static str, Vec<u8>) {
+pub fn period(rng: &mut Rng) -> (&'static str, Vec<u8>) {
     let length = 1 + rng.below(LONGEST);
     let (a, b) = (rng.byte() & 15, rng.byte() & 15);
     let mut codes = Vec::with_capacity(2 * length);
@@ -143,7 +149,11 @@ impl Tally {
     /// Decodes periods both ways, one side after the other.
     fn compare(&mut self, kind: &'static str, periods: &[Vec<u8>]) {
         let room = |more| move |packed: &Vec<u8>| 2 * packed.len() + more;
-        let mut rust: Vec<_> = periods.iter().map(room(0)).map(Vec::with_capacity).collect();
+        let mut rust: Vec<_> = periods
+            .iter()
+            .map(room(0))
+            .map(Vec::with_capacity)
+            .collect();
         let start = Instant::now();
         for (packed, out) in periods.iter().zip(&mut rust) {
             dsp::decode_adpcm(packed, out);
@@ -156,7 +166,10 @@ impl Tally {
             probe::decode_adpcm(packed, out);
         }
         let archive_time = start.elapsed();
-        let codes = periods.iter().map(|packed| 2 * packed.len() as u64).sum::<u64>();
+        let codes = periods
+            .iter()
+            .map(|packed| 2 * packed.len() as u64)
+            .sum::<u64>();
         self.codes += codes;
         let time = self.time(kind);
         time.codes += codes;

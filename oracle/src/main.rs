@@ -27,6 +27,8 @@ mod sheet;
 #[cfg(feature = "probe")]
 mod speech;
 mod statements;
+#[cfg(feature = "probe_state")]
+mod states;
 mod voicefile;
 
 use std::process::ExitCode;

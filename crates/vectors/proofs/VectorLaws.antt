@@ -1,23 +1,22 @@
--- What is compared, from what the calls ensure; the decoder's turns.
+-- What is compared, from what the calls ensure.
 use mathlib.Core.Path.{_≡_, _∙_}
 use mathlib.Core.Bool.{false}
 use mathlib.Core.List.{List}
 use Prim.Native.Nat.{ℕ, _+_, _*_, _-_, _%_, _≤_, _<_}
 use native.Mathlib.Omega.{arith}
-use native.Mathlib.Numerals.{add-one}
 use lib.Dec.{eqb}
 use borrow.Author.Tests.{le-leb, lt-leb}
 use lib.ListN.{length, getD, take, drop, length-drop, List·getD-append}
 use lib.Seq.{take-all}
 use Rattle.base.specs.Buffers.{over}
 use Rattle.base.specs.Bytes.{littleEndian, u16At}
-use Rattle.adpcm.specs.Decoder.{fresh, signalsOf, nextOf, codesOf, decoded}
+use Rattle.adpcm.specs.Decoder.{signalsOf, codesOf, decoded, stateAt}
 use Rattle.adpcm.specs.declared.AdpcmState.{AdpcmState}
 use Rattle.adpcm.specs.declared.Signals.{Signals}
 use Rattle.adpcm.proofs.Turns.{length-decoded}
 use Rattle.vectors.specs.declared.Tally.{Tally}
 use Rattle.vectors.specs.Tallies.{one, joined, allOf}
-use Rattle.vectors.specs.Vectors.{encoding, run, stateAt, sample, byte, period, periodAt}
+use Rattle.vectors.specs.Vectors.{encoding, run, sample, byte, period, periodAt}
 use Rattle.vectors.proofs.TallyLaws.{all-same}
 
 -- one comparison
@@ -30,21 +29,12 @@ pub run-of : {r : Tally} {word count : ℕ} (runs : List ℕ) (i : ℕ) → word
 unfolding run
 run-of runs i ew ec e = e ∙ rw (ew, ec)
 
--- ---- the decoder's turns
+-- ---- the decoder
 
-module _ (packed : List ℕ) where
-  pub state-first : {s : AdpcmState} → s ≡ fresh → s ≡ stateAt (codesOf packed) 0
-  unfolding stateAt
-  state-first e = e
-
-  pub state-next : {s t : AdpcmState} {g : Signals} (k i : ℕ) → s ≡ stateAt (codesOf packed) k → i ≡ getD (codesOf packed) k 0 → g ≡ signalsOf s i
-      → t ≡ nextOf s i g → t ≡ stateAt (codesOf packed) (k + 1)
-  unfolding stateAt
-  state-next k i es ei eg et = et ∙ rw (add-one, eg, es, ei)
-
-  pub sample-at : {x : Tally} {s : AdpcmState} {g : Signals} (words : List ℕ) (k i : ℕ) → s ≡ stateAt (codesOf packed) k → i ≡ getD (codesOf packed) k 0 → g ≡ signalsOf s i
-      → x ≡ one (eqb (4 * g .sr % 65536) (u16At words k)) → x ≡ sample packed words k
-  sample-at words k i es ei eg ex = ex ∙ rw (eg, es, ei)
+-- a code's sample, at its delays
+pub sample-at : {x : Tally} {s : AdpcmState} {g : Signals} (packed words : List ℕ) (k i : ℕ) → s ≡ stateAt (codesOf packed) k → i ≡ getD (codesOf packed) k 0
+    → g ≡ signalsOf s i → x ≡ one (eqb (4 * g .sr % 65536) (u16At words k)) → x ≡ sample packed words k
+sample-at packed words k i es ei eg ex = ex ∙ rw (eg, es, ei)
 
 -- a period whose bytes stand at the front of a longer buffer
 pub period-of : {s b r : Tally} (packed words want out buf : List ℕ) → s ≡ allOf (sample packed words) (2 * length packed) → out ≡ over (decoded packed) buf

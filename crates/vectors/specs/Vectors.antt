@@ -2,7 +2,7 @@
 use mathlib.Core.List.{List}
 use mathlib.Core.Path.{_≡_}
 use mathlib.Core.Bool.{false}
-use Prim.Native.Nat.{ℕ, zero, suc, _+_, _*_, _%_, _≤_}
+use Prim.Native.Nat.{ℕ, _+_, _*_, _%_, _≤_}
 use lib.Dec.{eqb, leb}
 use lib.ListN.{length, getD, drop}
 use Rattle.base.specs.Choice.{pick}
@@ -10,8 +10,7 @@ use Rattle.base.specs.Bytes.{littleEndian, u16At}
 use Rattle.base.specs.Lists.{part}
 use Rattle.base.specs.Words.{low, signed16}
 use Rattle.ulaw.specs.Ulaw.{sampleOf, ulawOf}
-use Rattle.adpcm.specs.Decoder.{fresh, signalsOf, nextOf, codesOf, decoded}
-use Rattle.adpcm.specs.declared.AdpcmState.{AdpcmState}
+use Rattle.adpcm.specs.Decoder.{signalsOf, codesOf, decoded, stateAt}
 use Rattle.vectors.specs.declared.Tally.{Tally}
 use Rattle.vectors.specs.Tallies.{one, joined, allOf}
 
@@ -31,12 +30,7 @@ run runs i = allOf (encoding (littleEndian 2 runs (5 * i)) (getD runs (5 * i + 4
 
 -- ---- the G.721 decoder
 
--- the delays before code k
-unfoldable pub stateAt : List ℕ → ℕ → AdpcmState
-stateAt codes zero = fresh
-stateAt codes (suc k) = nextOf (stateAt codes k) (getD codes k 0) (signalsOf (stateAt codes k) (getD codes k 0))
-
--- 4 times its SR, kept to 16 bits
+-- 4 times the SR of code k, kept to 16 bits
 abbrev pub wordAt : List ℕ → ℕ → ℕ
 wordAt codes k = 4 * signalsOf (stateAt codes k) (getD codes k 0) .sr % 65536
 

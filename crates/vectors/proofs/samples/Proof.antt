@@ -3,10 +3,11 @@ use native.Mathlib.Omega.{arith}
 use lib.ListN.{length}
 use Rattle.vectors.proofs.TallyLaws.{At, start, room, turn, end}
 use mathlib.Core.Path.{_≡_}
-use Rattle.adpcm.specs.Decoder.{codesOf}
+use Rattle.adpcm.specs.Decoder.{codesOf, stateAt}
+use Rattle.adpcm.proofs.Turns.{state-first, state-next}
 use Rattle.adpcm.specs.Words.{Words}
-use Rattle.vectors.specs.Vectors.{sample, stateAt}
-use Rattle.vectors.proofs.VectorLaws.{state-first, state-next, sample-at}
+use Rattle.vectors.specs.Vectors.{sample}
+use Rattle.vectors.proofs.VectorLaws.{sample-at}
 use Rattle.vectors.proofs.samples.Statement.{statement}
 use Rattle.vectors.proofs.samples.Tie as tie
 
@@ -23,7 +24,7 @@ fresh-requires : tie.Need-fresh-requires Inv-loop μ-loop
 fresh-requires c κs = omega arith
 
 loop-holds : tie.Need-loop-holds Inv-loop μ-loop
-loop-holds c = (start _ _ _ (c .before .none .ensures), (state-first (c .before .before .before .before .args .packed .now) (c .fresh .ensures .0), c .fresh .ensures .1))
+loop-holds c = (start _ _ _ (c .before .none .ensures), (state-first (codesOf (c .before .before .before .before .args .packed .now)) (c .fresh .ensures .0), c .fresh .ensures .1))
 
 mul-loop : tie.Need-mul-loop Inv-loop μ-loop
 mul-loop c = omega arith
@@ -64,7 +65,7 @@ loop-again c =
     let s = l .inv .1 .0 in (
       turn _ _ _ (l .k) (l .inv .0) (c .before .before .before .before .before .loop-test .taken)
           (sample-at p (a .words .now) (l .k) (d .result) s (d .ensures .0) e (x .ensures .0)) (x .ensures .1) (c .before .joined .ensures),
-      (state-next p (l .k) (d .result) s (d .ensures .0) e (c .next-of .ensures .0), c .next-of .ensures .1),
+      (state-next (codesOf p) (l .k) (d .result) s (d .ensures .0) e (c .next-of .ensures .0), c .next-of .ensures .1),
     )
 
 returns : tie.Need-returns Inv-loop μ-loop
