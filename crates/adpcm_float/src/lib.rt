@@ -14,20 +14,12 @@ fn exponent(mag: u32) -> u32
     31 - u32::leading_zeros(2 * mag + 1)
 }
 
-// MANT before its shift: 32 for 0.
-fn widened(mag: u32) -> u32
-    requires { ⌜ mag < 32768 ⌝ }
-    ensures { λ r. ⌜ r ≡ pick (eqb mag 0) 32 (mag * 64) ⌝ }
-{
-    if mag == 0 { 32 } else { mag * 64 }
-}
-
-// MANT of a magnitude: its six highest bits.
+// MANT of a magnitude: its six highest bits. The first of them is set, and for 0 it alone.
 fn mantissa(mag: u32) -> u32
     requires { ⌜ mag < 32768 ⌝ }
     ensures { λ r. ⌜ (r ≡ block.mantissa mag) × (r < 64) ⌝ }
 {
-    widened(mag) >> exponent(mag)
+    (mag * 64 >> exponent(mag)) | 32
 }
 
 // A sign bit and a magnitude in floating format.
