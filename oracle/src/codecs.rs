@@ -24,6 +24,9 @@ const HELD: usize = 10_000;
 /// Bytes of the archive's buffer past the output.
 const SPARE: usize = 3;
 
+/// How often a period is decoded on each side.
+const PASSES: usize = 3;
+
 /// Speech-like periods that are decoded in one go.
 const BATCH: u64 = 36;
 
@@ -146,35 +149,32 @@ impl Tally {
         &mut self.times[at]
     }
 
-    /// Decodes periods both ways, one side after the other.
+    /// Decodes periods both ways, one side after the other, and counts the
+    /// fastest of a few passes for each.
     fn compare(&mut self, kind: &'static str, periods: &[Vec<u8>]) {
         let room = |more| move |packed: &Vec<u8>| 2 * packed.len() + more;
-        let mut rust: Vec<_> = periods
-            .iter()
-            .map(room(0))
-            .map(Vec::with_capacity)
-            .collect();
-        let start = Instant::now();
-        for (packed, out) in periods.iter().zip(&mut rust) {
-            dsp::decode_adpcm(packed, out);
-        }
-        let rust_time = start.elapsed();
+        let mut rust = Vec::from_iter(periods.iter().map(room(0)).map(Vec::with_capacity));
         let filler = |len| vec![0xA5; len];
-        let mut archive: Vec<_> = periods.iter().map(room(SPARE)).map(filler).collect();
-        let start = Instant::now();
-        for (packed, out) in periods.iter().zip(&mut archive) {
-            probe::decode_adpcm(packed, out);
+        let mut archive = Vec::from_iter(periods.iter().map(room(SPARE)).map(filler));
+        let mut times = [Duration::MAX; 2];
+        for _ in 0..PASSES {
+            let start = Instant::now();
+            for (packed, out) in periods.iter().zip(&mut rust) {
+                dsp::decode_adpcm(packed, out);
+            }
+            times[0] = times[0].min(start.elapsed());
+            let start = Instant::now();
+            for (packed, out) in periods.iter().zip(&mut archive) {
+                probe::decode_adpcm(packed, out);
+            }
+            times[1] = times[1].min(start.elapsed());
         }
-        let archive_time = start.elapsed();
-        let codes = periods
-            .iter()
-            .map(|packed| 2 * packed.len() as u64)
-            .sum::<u64>();
+        let codes = periods.iter().map(room(0)).sum::<usize>() as u64;
         self.codes += codes;
         let time = self.time(kind);
         time.codes += codes;
-        time.rust += rust_time;
-        time.archive += archive_time;
+        time.rust += times[0];
+        time.archive += times[1];
         for ((packed, rust), archive) in periods.iter().zip(&rust).zip(&archive) {
             self.check(kind, packed, rust, archive);
         }
