@@ -13,7 +13,7 @@ use lib.Pow.{pow-mono, pow-pos, pow-add, shl-exact, shl-shr}
 use Rattle.base.specs.Choice.{pick}
 use Rattle.base.proofs.CaseLaws.{by-order}
 use Rattle.base.proofs.TableLaws.{below}
-use Rattle.adpcm_float.specs.Floating.{exponent, mantissa, wanMag}
+use Rattle.adpcm_float.specs.Floating.{exponent, mantissa, wanMag, signed}
 
 pub exponent-le : (k mag : ℕ) → exponent k mag ≤ k
 unfolding exponent
@@ -120,3 +120,16 @@ wanMag-shift mant exp h k =
     down l =
         rw (le-leb exp 26 l, shift-down (mant * 128) exp 26 l)
         (mod-eq-of-lt (omega (arith, div-le-self (mant * 128) (2 ^ (26 - exp)))))
+
+-- ---- the sign
+
+pub once : (mag sign : ℕ) → sign < 2 → mag * sign ≤ mag
+once mag zero h = omega arith
+once mag (suc zero) h = omega arith
+once mag (suc (suc n)) h = absurd (omega arith)
+
+pub signed-off : (sign mag : ℕ) → sign < 2 → mag < 32768 → (mag + 65536 - 2 * (mag * sign)) % 65536 ≡ signed sign mag
+unfolding signed
+signed-off zero mag s h = omega arith
+signed-off (suc zero) mag s h = omega arith
+signed-off (suc (suc n)) mag s h = absurd (omega arith)

@@ -80,16 +80,13 @@ fn wan_mag(mant: u32, exp: u32) -> u32
     (((wide << exp) >> 26) % 32768) as u32
 }
 
-// A magnitude with a sign bit, in two's complement.
+// A magnitude with a sign bit, in two's complement: twice what is to be negative is taken off, so
+// that nothing depends on a test.
 fn signed(sign: u32, mag: u32) -> u32
-    requires { ⌜ mag < 32768 ⌝ }
+    requires { ⌜ (sign < 2) × (mag < 32768) ⌝ }
     ensures { λ r. ⌜ (r ≡ block.signed sign mag) × (r < 65536) ⌝ }
 {
-    if sign == 0 {
-        mag
-    } else {
-        (65536 - mag) % 65536
-    }
+    (mag + 65536 - 2 * (mag * sign)) % 65536
 }
 
 // FMULT: a coefficient times a signal in floating format.
