@@ -40,7 +40,7 @@ pub fn agree(seed: u64) -> bool {
         wrong += mismatches(&[code << 4 | code; 750], 100);
         compared += 16;
     }
-    println!("  AdpcmState: after {compared} codes, 24 words each, {wrong} mismatches");
+    println!("  AdpcmState: {compared} states of 24 words, {wrong} mismatches");
     wrong == 0
 }
 
