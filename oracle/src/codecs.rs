@@ -4,9 +4,11 @@
 
 use crate::args::Args;
 use crate::dsp;
-use crate::dsp::access::decode_adpcm;
 use crate::probe;
 use crate::rng::Rng;
+use crate::speech::Speech;
+#[cfg(feature = "probe_state")]
+use crate::states;
 use std::time::{Duration, Instant};
 
 /// Codes in a run that is not told otherwise.
@@ -19,23 +21,43 @@ const LONGEST: usize = 4_096;
 /// Packed bytes of one held code: long enough for every delay to settle.
 const HELD: usize = 10_000;
 
+/// Bytes of the archive's buffer past the output.
+const SPARE: usize = 3;
+
+/// How often a period is decoded on each side.
+const PASSES: usize = 3;
+
+/// Speech-like periods that are decoded in one go.
+const BATCH: u64 = 36;
+
 pub fn run(args: &Args) -> bool {
     let count = args.count.unwrap_or(COUNT).max(1);
     println!("oracle codecs: seed {}, count {count}", args.seed);
     let mut agreed = bytes_and_samples();
+    #[cfg(feature = "probe_state")]
+    {
+        agreed &= states::agree(args.seed);
+    }
     let mut tally = Tally::default();
     for code in 0..16u8 {
-        tally.compare("held", &vec![code << 4 | code; HELD]);
+        tally.compare("held", &[vec![code << 4 | code; HELD]]);
     }
-    let mut case = 0;
+    let mut periods = 16;
+    let mut speech = Speech::new();
     while tally.codes < count {
-        let mut rng = Rng::for_case(args.seed, case);
-        let (kind, packed) = period(&mut rng);
-        tally.compare(kind, &packed);
-        case += 1;
+        let mut rng = Rng::for_case(args.seed, periods);
+        if periods % 5 == 0 {
+            let batch: Vec<_> = (0..BATCH).map(|_| speech.period(&mut rng)).collect();
+            tally.compare("speech-like", &batch);
+            periods += BATCH;
+        } else {
+            let (kind, packed) = period(&mut rng);
+            tally.compare(kind, &[packed]);
+            periods += 1;
+        }
     }
     println!(
-        "  decode_adpcm: {} codes in {case} periods and 16 held ones, {} mismatches",
+        "  decode_adpcm: {} codes in {periods} periods, {} mismatches",
         tally.codes, tally.wrong
     );
     for time in &tally.times {
@@ -80,7 +102,7 @@ fn bytes_and_samples() -> bool {
 }
 
 /// The packed codes of a period, and what kind they are.
-fn period(rng: &mut Rng) -> (&'static str, Vec<u8>) {
+pub fn period(rng: &mut Rng) -> (&'static str, Vec<u8>) {
     let length = 1 + rng.below(LONGEST);
     let (a, b) = (rng.byte() & 15, rng.byte() & 15);
     let mut codes = Vec::with_capacity(2 * length);
@@ -127,24 +149,43 @@ impl Tally {
         &mut self.times[at]
     }
 
-    /// Decodes one period both ways. The archive's output stands in a buffer
-    /// with room to spare, which it must leave as it was.
-    fn compare(&mut self, kind: &'static str, packed: &[u8]) {
-        let start = Instant::now();
-        let rust = decode_adpcm(packed);
-        let rust_time = start.elapsed();
-        let mut out = vec![0xA5; 2 * packed.len() + 3];
-        let start = Instant::now();
-        probe::decode_adpcm(packed, &mut out);
-        let archive_time = start.elapsed();
-        self.codes += 2 * packed.len() as u64;
+    /// Decodes periods both ways, one side after the other, and counts the
+    /// fastest of a few passes for each.
+    fn compare(&mut self, kind: &'static str, periods: &[Vec<u8>]) {
+        let room = |more| move |packed: &Vec<u8>| 2 * packed.len() + more;
+        let mut rust = Vec::from_iter(periods.iter().map(room(0)).map(Vec::with_capacity));
+        let filler = |len| vec![0xA5; len];
+        let mut archive = Vec::from_iter(periods.iter().map(room(SPARE)).map(filler));
+        let mut times = [Duration::MAX; 2];
+        for _ in 0..PASSES {
+            let start = Instant::now();
+            for (packed, out) in periods.iter().zip(&mut rust) {
+                dsp::decode_adpcm(packed, out);
+            }
+            times[0] = times[0].min(start.elapsed());
+            let start = Instant::now();
+            for (packed, out) in periods.iter().zip(&mut archive) {
+                probe::decode_adpcm(packed, out);
+            }
+            times[1] = times[1].min(start.elapsed());
+        }
+        let codes = periods.iter().map(room(0)).sum::<usize>() as u64;
+        self.codes += codes;
         let time = self.time(kind);
-        time.codes += 2 * packed.len() as u64;
-        time.rust += rust_time;
-        time.archive += archive_time;
-        let (front, rest) = out.split_at(2 * packed.len());
+        time.codes += codes;
+        time.rust += times[0];
+        time.archive += times[1];
+        for ((packed, rust), archive) in periods.iter().zip(&rust).zip(&archive) {
+            self.check(kind, packed, rust, archive);
+        }
+    }
+
+    /// The archive's output stands in a buffer with room to spare, which it
+    /// must leave as it was.
+    fn check(&mut self, kind: &str, packed: &[u8], rust: &[u8], archive: &[u8]) {
+        let (front, rest) = archive.split_at(2 * packed.len());
         let first = rust.iter().zip(front).position(|(a, b)| a != b);
-        if first.is_some() || rest != [0xA5; 3] || rust.len() != front.len() {
+        if first.is_some() || rest != [0xA5; SPARE] || rust.len() != front.len() {
             self.wrong += 1;
             println!(
                 "oracle: mismatch: decode_adpcm: {kind} codes, first at {first:?}, {packed:02x?}"

@@ -30,7 +30,11 @@ mod report;
 mod rng;
 mod selfcheck;
 mod sheet;
+#[cfg(feature = "probe")]
+mod speech;
 mod statements;
+#[cfg(feature = "probe_state")]
+mod states;
 mod voicefile;
 
 use std::process::ExitCode;

@@ -2,15 +2,17 @@
 use mathlib.Core.Path.{_≡_, refl, sym, ap, _∙_}
 use mathlib.Core.List.{List, [], _∷_}
 use Prim.Native.Nat.{ℕ, zero, suc, _+_, _*_, _/_, _%_, _<_, _≤_}
+use native.Mathlib.Numerals.{add-one}
 use native.Mathlib.Omega.{arith}
 use lib.ListN.{length, drop, set, getD, length-set, drop-of-length-le}
 use lib.Seq.{sets, drop-cons}
 use Rattle.base.specs.Buffers.{over}
 use Rattle.base.proofs.BufferLaws.{sets-over}
 use Rattle.ulaw.specs.Ulaw.{ulawOf}
-use Rattle.adpcm.specs.Decoder.{fresh, signalsOf, nextOf, sampleIn, codesOf, decodedFrom, decoded}
+use Rattle.adpcm.specs.Decoder.{fresh, signalsOf, nextOf, sampleIn, codesOf, decodedFrom, decoded, stateAt}
 use Rattle.adpcm.specs.Words.{Words, Coding}
 use Rattle.adpcm.specs.declared.AdpcmState.{AdpcmState}
+use Rattle.adpcm.specs.declared.Signals.{Signals}
 use Rattle.adpcm.specs.declared.Coded.{Coded}
 
 -- ---- the codes
@@ -94,3 +96,15 @@ unfolding decodedFrom
 end packed out₀ out s k at done room =
     let none : length (codesOf packed) ≤ k = rw length-codesOf done in
     (rw (drop-of-length-le (codesOf packed) {i = k} none) at (at .filled)) ∙ sets-over (decoded packed) out₀ (rw length-decoded room)
+
+-- ---- the delays before a code
+
+module _ (codes : List ℕ) where
+  pub state-first : {s : AdpcmState} → s ≡ fresh → s ≡ stateAt codes 0
+  unfolding stateAt
+  state-first e = e
+
+  pub state-next : {s t : AdpcmState} {g : Signals} (k i : ℕ) → s ≡ stateAt codes k → i ≡ getD codes k 0 → g ≡ signalsOf s i → t ≡ nextOf s i g
+      → t ≡ stateAt codes (k + 1)
+  unfolding stateAt
+  state-next k i es ei eg et = et ∙ rw (add-one, eg, es, ei)

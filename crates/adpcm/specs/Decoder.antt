@@ -1,7 +1,7 @@
 -- The decoder of ITU-T G.726 at 32 kbit/s (G.721): the blocks joined as in the Recommendation's figures, and the delays.
 -- The departures are two, both after SR, at `sampleIn`. The reset for each period is a use of the Recommendation's reset.
 use mathlib.Core.List.{List, [], _∷_}
-use Prim.Native.Nat.{ℕ, _*_, _/_, _%_}
+use Prim.Native.Nat.{ℕ, zero, suc, _*_, _/_, _%_}
 use lib.Dec.{eqb}
 use lib.IntN.{ℤ}
 use lib.ListN.{getD}
@@ -99,3 +99,8 @@ decodedFrom s (i ∷ is) =
 -- 'G.721 starts fresh each period'
 unfoldable pub decoded : List ℕ → List ℕ
 decoded packed = decodedFrom fresh (codesOf packed)
+
+-- the delays before code k
+unfoldable pub stateAt : List ℕ → ℕ → AdpcmState
+stateAt codes zero = fresh
+stateAt codes (suc k) = nextOf (stateAt codes k) (getD codes k 0) (signalsOf (stateAt codes k) (getD codes k 0))

@@ -179,7 +179,7 @@ fn byte_of(g: Signals) -> u8
 }
 
 // The code at place k of packed bytes, two a byte: the high half first.
-fn code_at(packed: &[u8], k: usize) -> usize
+pub fn code_at(packed: &[u8], k: usize) -> usize
     requires { ⌜ k < 2 * length (now packed) ⌝ }
     ensures { λ r. ⌜ (r ≡ getD (decoder.codesOf (now (packed .entry))) k 0) × (r < 16) ⌝ }
 {

@@ -2,16 +2,18 @@
 use mathlib.Core.Path.{_≡_, refl, sym, ap, _∙_}
 use mathlib.Core.Bool.{Bool, true, false}
 use Prim.Native.Nat.{ℕ, zero, suc, _+_, _-_, _*_, _/_, _%_, _^_, _<_, _≤_}
-use native.Mathlib.Nat.{mul-assoc, pow-suc, div-lt-iff-lt-mul, div-le-self, mul-div-mul-right, mod-eq-of-lt}
+use native.Mathlib.Nat.{mul-assoc, pow-suc, div-lt-iff-lt-mul, le-div-iff-mul-le, div-le-self, mul-div-mul-right, mod-eq-of-lt}
 use native.Mathlib.Decide.{ℕ-discrete, decLe}
 use native.Mathlib.Omega.{arith}
-use borrow.Author.Tests.{le-leb, lt-leb, leb-false, ne-eqb}
+use borrow.Author.Tests.{le-leb, lt-leb, leb-true, leb-false, ne-eqb}
 use lib.Count.{leadingZeros, leading-top}
-use lib.Dec.{leb, eqb}
+use lib.Bits.{bitOr}
+use lib.Dec.{leb, eqb, eqb→eq}
 use lib.Pow.{pow-mono, pow-pos, pow-add, shl-exact, shl-shr}
 use Rattle.base.specs.Choice.{pick}
 use Rattle.base.proofs.CaseLaws.{by-order}
-use Rattle.adpcm_float.specs.Floating.{exponent, mantissa, wanMag}
+use Rattle.base.proofs.TableLaws.{below}
+use Rattle.adpcm_float.specs.Floating.{exponent, mantissa, wanMag, signed}
 
 pub exponent-le : (k mag : ℕ) → exponent k mag ≤ k
 unfolding exponent
@@ -57,22 +59,41 @@ exponent-zeros mag h =
     at-most m (yes p) l = let q : 2 ^ 16 ≤ 2 ^ m = pow-mono p in absurd (omega arith)
     at-most m (no p) l = omega arith
 
--- the shift of a mantissa, where 0 stands for 32
-pub mantissa-shift : (mag : ℕ) → pick (eqb mag 0) 32 (mag * 64) / 2 ^ exponent 15 mag ≡ mantissa mag
-unfolding mantissa exponent
-mantissa-shift zero = refl
-mantissa-shift (suc n) = rw (ne-eqb (suc n) 0 (λ e. omega arith))
+exponent-low : (k mag : ℕ) → 0 < mag → 2 ^ exponent k mag ≤ 2 * mag
+unfolding exponent
+exponent-low zero mag h = omega arith
+exponent-low (suc k) mag h = chosen (leb (2 ^ k) mag) refl (exponent-low k mag h)
+  where
+    chosen : (t : Bool) → leb (2 ^ k) mag ≡ t → 2 ^ exponent k mag ≤ 2 * mag → 2 ^ pick t (suc k) (exponent k mag) ≤ 2 * mag
+    chosen true e rest = omega (arith, leb-true (2 ^ k) mag e, pow-suc 2 k)
+    chosen false e rest = rest
+
+shifted-lt : (mag : ℕ) → mag < 32768 → mag * 64 / 2 ^ exponent 15 mag < 64
+shifted-lt mag h = div-lt-iff-lt-mul (pow-pos (exponent 15 mag)) .1 (omega (arith, exponent-high 15 mag h))
 
 pub mantissa-lt : (mag : ℕ) → mag < 32768 → mantissa mag < 64
 unfolding mantissa
 mantissa-lt mag h = chosen (eqb mag 0)
   where
-    high : mag * 64 / 2 ^ exponent 15 mag < 64
-    high = div-lt-iff-lt-mul (pow-pos (exponent 15 mag)) .1 (omega (arith, exponent-high 15 mag h))
-
     chosen : (t : Bool) → pick t 32 (mag * 64 / 2 ^ exponent 15 mag) < 64
     chosen true = omega arith
-    chosen false = high
+    chosen false = shifted-lt mag h
+
+-- the highest bit of the six, which is set already
+six : ℕ → Bool
+six n = pick (leb 32 n) (eqb (bitOr n 32) n) true
+
+or-32 : (n : ℕ) → 32 ≤ n → n < 64 → bitOr n 32 ≡ n
+unfolding six
+or-32 n l h = eqb→eq (bitOr n 32) n (rw (le-leb 32 n l) at (below six 64 tt n h))
+
+pub mantissa-or : (mag : ℕ) → mag < 32768 → bitOr (mag * 64 / 2 ^ exponent 15 mag) 32 ≡ mantissa mag
+unfolding mantissa exponent
+mantissa-or zero h = refl
+mantissa-or (suc n) h =
+    let low : 32 ≤ suc n * 64 / 2 ^ exponent 15 (suc n) =
+    le-div-iff-mul-le (pow-pos (exponent 15 (suc n))) .1 (omega (arith, exponent-low 15 (suc n) (omega arith))) in
+    rw (ne-eqb (suc n) 0 (λ e. omega arith)) (or-32 (suc n * 64 / 2 ^ exponent 15 (suc n)) low (shifted-lt (suc n) h))
 
 -- a shift up by i and down by j is one shift
 
@@ -99,3 +120,16 @@ wanMag-shift mant exp h k =
     down l =
         rw (le-leb exp 26 l, shift-down (mant * 128) exp 26 l)
         (mod-eq-of-lt (omega (arith, div-le-self (mant * 128) (2 ^ (26 - exp)))))
+
+-- ---- the sign
+
+pub once : (mag sign : ℕ) → sign < 2 → mag * sign ≤ mag
+once mag zero h = omega arith
+once mag (suc zero) h = omega arith
+once mag (suc (suc n)) h = absurd (omega arith)
+
+pub signed-off : (sign mag : ℕ) → sign < 2 → mag < 32768 → (mag + 65536 - 2 * (mag * sign)) % 65536 ≡ signed sign mag
+unfolding signed
+signed-off zero mag s h = omega arith
+signed-off (suc zero) mag s h = omega arith
+signed-off (suc (suc n)) mag s h = absurd (omega arith)

@@ -14,20 +14,12 @@ fn exponent(mag: u32) -> u32
     31 - u32::leading_zeros(2 * mag + 1)
 }
 
-// MANT before its shift: 32 for 0.
-fn widened(mag: u32) -> u32
-    requires { ⌜ mag < 32768 ⌝ }
-    ensures { λ r. ⌜ r ≡ pick (eqb mag 0) 32 (mag * 64) ⌝ }
-{
-    if mag == 0 { 32 } else { mag * 64 }
-}
-
-// MANT of a magnitude: its six highest bits.
+// MANT of a magnitude: its six highest bits. The first of them is set, and for 0 it alone.
 fn mantissa(mag: u32) -> u32
     requires { ⌜ mag < 32768 ⌝ }
     ensures { λ r. ⌜ (r ≡ block.mantissa mag) × (r < 64) ⌝ }
 {
-    widened(mag) >> exponent(mag)
+    (mag * 64 >> exponent(mag)) | 32
 }
 
 // A sign bit and a magnitude in floating format.
@@ -88,16 +80,13 @@ fn wan_mag(mant: u32, exp: u32) -> u32
     (((wide << exp) >> 26) % 32768) as u32
 }
 
-// A magnitude with a sign bit, in two's complement.
+// A magnitude with a sign bit, in two's complement: twice what is to be negative is taken off, so
+// that nothing depends on a test.
 fn signed(sign: u32, mag: u32) -> u32
-    requires { ⌜ mag < 32768 ⌝ }
+    requires { ⌜ (sign < 2) × (mag < 32768) ⌝ }
     ensures { λ r. ⌜ (r ≡ block.signed sign mag) × (r < 65536) ⌝ }
 {
-    if sign == 0 {
-        mag
-    } else {
-        (65536 - mag) % 65536
-    }
+    (mag + 65536 - 2 * (mag * sign)) % 65536
 }
 
 // FMULT: a coefficient times a signal in floating format.

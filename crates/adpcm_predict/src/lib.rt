@@ -136,17 +136,18 @@ fn fa1(a1: u16) -> u32
     }
 }
 
-// UPA2: with the sign of the last two sums' product.
+// UPA2: with the sign of the last two sums' product, by a product and not a test.
 fn fa(pks1: u16, a1: u16) -> u32
+    requires { ⌜ pks1 < 2 ⌝ }
     ensures { λ r. ⌜ (r ≡ block.fa pks1 a1) × (r < 131072) ⌝ }
 {
     let f = fa1(a1);
-    if pks1 == 1 { f } else { (131072 - f) % 131072 }
+    (131072 - f + 2 * (f * (pks1 as u32))) % 131072
 }
 
 // UPA2: the gain.
 fn uga2(pks1: u16, pks2: u16, sigpk: u16, a1: u16) -> u32
-    requires { ⌜ pks2 < 2 ⌝ }
+    requires { ⌜ (pks1 < 2) × (pks2 < 2) ⌝ }
     ensures { λ r. ⌜ (r ≡ block.uga2 pks1 pks2 sigpk a1) × (r < 65536) ⌝ }
 {
     let sum = (16384 + 98304 * (pks2 as u32) + fa(pks1, a1)) % 131072;
@@ -159,7 +160,7 @@ fn uga2(pks1: u16, pks2: u16, sigpk: u16, a1: u16) -> u32
 
 // UPA2: the second coefficient.
 fn upa2(pks1: u16, pks2: u16, sigpk: u16, a1: u16, a2: u16) -> u16
-    requires { ⌜ pks2 < 2 ⌝ }
+    requires { ⌜ (pks1 < 2) × (pks2 < 2) ⌝ }
     ensures { λ r. ⌜ r ≡ block.upa2 pks1 pks2 sigpk a1 a2 ⌝ }
 {
     let a = a2 as u32;
@@ -181,19 +182,21 @@ fn limc(a2t: u16) -> u16
     }
 }
 
-// UPA1: the gain.
+// UPA1: the gain, its sign by a product.
 fn uga1(pks1: u16, sigpk: u16) -> u32
+    requires { ⌜ pks1 < 2 ⌝ }
     ensures { λ r. ⌜ (r ≡ block.uga1 pks1 sigpk) × (r < 65536) ⌝ }
 {
     if sigpk == 1 {
         0
     } else {
-        if pks1 == 0 { 192 } else { 65344 }
+        192 + 65152 * (pks1 as u32)
     }
 }
 
 // UPA1: the first coefficient.
 fn upa1(pks1: u16, sigpk: u16, a1: u16) -> u16
+    requires { ⌜ pks1 < 2 ⌝ }
     ensures { λ r. ⌜ r ≡ block.upa1 pks1 sigpk a1 ⌝ }
 {
     let a = a1 as u32;

@@ -2,7 +2,7 @@
 // four bits. A `requires` here is a word length of the Recommendation's list of signals; the
 // caller's state keeps it, and the caller has split its bytes into codes.
 ghost use mathlib.Core.Path.{_≡_};
-ghost use Prim.Native.Nat.{_*_, _/_, _<_, _≤_};
+ghost use Prim.Native.Nat.{_-_, _*_, _/_, _^_, _<_, _≤_};
 ghost use Rattle.adpcm_scale.specs.Scale as block;
 ghost use Rattle.adpcm_scale.specs.Words.{SpeedWords};
 
@@ -50,18 +50,21 @@ fn adda(dqln: u32, y: u16) -> u32
     (dqln + (y as u32) / 4) % 4096
 }
 
-// ANTILOG: the magnitude of a logarithm.
+// ANTILOG: a mantissa of 15 bits, shifted down by 14 less the exponent.
+fn shifted(dqt: u32, dex: u32) -> u32
+    requires { ⌜ dqt < 32768 ⌝ }
+    ensures { λ r. ⌜ (r ≡ dqt / 2 ^ (14 - dex)) × (r < 32768) ⌝ }
+{
+    if dex <= 14 { dqt >> (14 - dex) } else { dqt }
+}
+
+// ANTILOG: the magnitude of a logarithm. A negative one gives 0, by a product and not a test.
 fn antilog(dql: u32) -> u32
     requires { ⌜ dql < 4096 ⌝ }
     ensures { λ r. ⌜ (r ≡ block.antilog dql) × (r < 32768) ⌝ }
 {
     let dqt = (128 + dql % 128) * 128;
-    let dex = dql / 128 % 16;
-    if dql < 2048 {
-        if dex <= 14 { dqt >> (14 - dex) } else { dqt }
-    } else {
-        0
-    }
+    (1 - dql / 2048) * shifted(dqt, dql / 128 % 16)
 }
 
 // The quantised difference DQ of a code at the scale Y.

@@ -1,10 +1,9 @@
-use mathlib.Core.Path.{_≡_}
-use Prim.Native.Nat.{_%_, _*_, _+_, _-_, _/_, _^_}
-use native.Mathlib.Nat.{div-le-self}
+use mathlib.Core.Path.{_≡_, _∙_, ap}
+use Prim.Native.Nat.{ℕ, _*_, _-_, _/_}
 use native.Mathlib.Omega.{arith}
 use borrow.Author.Needs.{needs}
-use borrow.Author.Tests.{le-ltb, lt-ltb}
 use Rattle.adpcm_scale.specs.Scale.{antilog}
+use Rattle.adpcm_scale.proofs.ScaleLaws.{unless, unless-negative}
 use Rattle.adpcm_scale.proofs.antilog.Statement.{statement}
 use Rattle.adpcm_scale.proofs.antilog.Tie as tie
 
@@ -14,25 +13,22 @@ add-dqt c = search needs
 mul-dqt : tie.Need-mul-dqt
 mul-dqt c = search needs
 
-shr-result : tie.Need-shr-result
-shr-result c = search needs
+sub-result : tie.Need-sub-result
+sub-result c = search needs
+
+shifted-requires : tie.Need-shifted-requires
+shifted-requires c κs = search needs
+
+mul-result : tie.Need-mul-result
+mul-result c = omega (arith, unless (c .before .args .dql / 2048) (c .shifted .result))
 
 returns : tie.Need-returns
 unfolding antilog
 returns c =
-    let dql = c .before .before .args .dql in
-    (rw (lt-ltb dql 2048 (c .before .if1 .taken)), omega (arith, div-le-self ((128 + dql % 128) * 128) (2 ^ (14 - dql / 128 % 16))))
-
-returns-2 : tie.Need-returns-2
-unfolding antilog
-returns-2 c =
-    let dql = c .before .before .args .dql in
-    let z : 14 - dql / 128 % 16 ≡ 0 = omega (arith, c .if2 .left) in
-    (rw (lt-ltb dql 2048 (c .before .if1 .taken), z) (omega arith), omega arith)
-
-returns-3 : tie.Need-returns-3
-unfolding antilog
-returns-3 c = (rw (le-ltb _ _ (c .if1 .left)), omega arith)
+    let q = c .before .args .dql / 2048 in (
+      ap (λ (x : ℕ). (1 - q) * x) (c .shifted .ensures .0) ∙ unless-negative (c .before .args .dql) _ (c .before .pre),
+      omega (arith, unless q (c .shifted .result)),
+    )
 
 pub antilog-spec : {M : Type 1} → statement M
-antilog-spec = tie.close (tie.spec add-dqt mul-dqt shr-result returns returns-2 returns-3)
+antilog-spec = tie.close (tie.spec add-dqt mul-dqt sub-result shifted-requires mul-result returns)

@@ -1,0 +1,3 @@
+-- The root of vectors' laws.
+pub mod TallyLaws
+pub mod VectorLaws

@@ -1,0 +1,3 @@
+-- The root of vectors' definitions.
+pub mod Tallies
+pub mod Vectors
