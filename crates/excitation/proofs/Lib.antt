@@ -1,3 +1,4 @@
 -- Laws about excitation's definitions.
 pub mod TakenLaws
 pub mod SizedLaws
+pub mod WindowLaws

@@ -1,64 +1,77 @@
+use borrow.Author.Needs.{needs}
+use native.Mathlib.Omega.{arith}
+use mathlib.Core.Path.{_≡_, refl, sym, ap, _∙_}
+use Prim.Native.Nat.{_+_, _-_, _≤_}
+use lib.Ieee.{Float, binary32, add, ofBits}
+use Rattle.float.specs.Distance.{nearer}
+use Rattle.voice.specs.Voice.{voiceOf}
+use Rattle.excitation.specs.Nearest.{f32Of, nearestFrom, nearestPeriod}
+use Rattle.excitation.proofs.WindowLaws.{nearest-here, nearest-next, nearest-last}
 use Rattle.excitation.proofs.nearest_period.Statement.{statement}
 use Rattle.excitation.proofs.nearest_period.Tie as tie
-use Rattle.excitation.proofs.nearest_period.Reads as reads
-use Rattle.excitation.proofs.nearest_period.Lts as lts
-use Rattle.float.proofs.is_nearer.Reads as is-nearer-reads
-use Rattle.float.proofs.u32_to_f32.Reads as u32-to-f32-reads
-use Rattle.voice.proofs.periods.period_samples.Reads as period-samples-reads
 
 abbrev Inv-loop : tie.InvT-loop
-Inv-loop file d place start₀ p₀ last start p = ?
+Inv-loop file d place start₀ p₀ last start p = (p₀ ≤ p) × (nearestFrom (voiceOf file) place start p (last - p) ≡ nearestFrom (voiceOf file) place start₀ p₀ (last - p₀))
 
 abbrev μ-loop : tie.MeasureT-loop
-μ-loop file d place start₀ p₀ last start p = ?
+μ-loop file d place start₀ p₀ last start p = last - p
 
--- src/lib.rt:94:5
 loop-holds : tie.Need-loop-holds Inv-loop μ-loop
-loop-holds c = ?
+loop-holds c = (omega arith, refl)
 
--- src/lib.rt:95:45
 period-samples-requires : tie.Need-period-samples-requires Inv-loop μ-loop
-period-samples-requires c κs = ?
+period-samples-requires c κs = (c .before .before .before .pre .0, omega (arith, c .before .before .before .pre .1 .1))
 
--- src/lib.rt:95:45
 cast-u32-to-f32 : tie.Need-cast-u32-to-f32 Inv-loop μ-loop
-cast-u32-to-f32 c = ?
+cast-u32-to-f32 c = let h = c .period-samples .ensures .1 in omega (arith, h)
 
--- src/lib.rt:95:27
 u32-to-f32-requires : tie.Need-u32-to-f32-requires Inv-loop μ-loop
-u32-to-f32-requires c κs = ?
+u32-to-f32-requires c κs = search needs
 
--- src/lib.rt:96:12
 is-nearer-requires : tie.Need-is-nearer-requires Inv-loop μ-loop
-is-nearer-requires c κs = ?
+is-nearer-requires c κs = search needs
 
--- src/lib.rt:97:13
 returns : tie.Need-returns Inv-loop μ-loop
-returns c = ?
+unfolding nearestPeriod ofBits
+returns c =
+    let l = c .before .before .before .before .before .loop in
+    let v = voiceOf (c .before .before .before .before .before .before .before .args .file .now) in
+    let e = c .before .before .u32-to-f32 .ensures ∙ ap f32Of (c .before .before .before .period-samples .ensures .0) in
+    let q = sym (c .before .is-nearer .ensures ∙ ap (λ (x : Float). nearer (c .before .before .before .before .before .before .before .args .place) (c .before .before .before .before .before .loop .start) (add binary32 (c .before .before .before .before .before .loop .start) x)) e) ∙ c .if1 .taken in
+    sym (nearest-here v (c .before .before .before .before .before .before .before .args .place) (l .start) (l .p) (c .before .before .before .before .before .before .before .args .unit .«last_period») (c .before .before .before .before .loop-test .taken) q) ∙ l .inv .1
 
--- src/lib.rt:100:9
 add-p : tie.Need-add-p Inv-loop μ-loop
-add-p c = ?
+add-p c = search needs
 
--- src/lib.rt:94:5
 loop-less : tie.Need-loop-less Inv-loop μ-loop
-loop-less c = ?
+loop-less c = search needs
 
--- src/lib.rt:94:5
 loop-again : tie.Need-loop-again Inv-loop μ-loop
-loop-again c = ?
+loop-again c =
+    let l = c .before .before .before .before .before .loop in
+    let v = voiceOf (c .before .before .before .before .before .before .before .args .file .now) in
+    let last = c .before .before .before .before .before .before .before .args .unit .«last_period» in
+    let e = c .before .before .u32-to-f32 .ensures ∙ ap f32Of (c .before .before .before .period-samples .ensures .0) in
+    let q = sym (c .before .is-nearer .ensures ∙ ap (λ (x : Float). nearer (c .before .before .before .before .before .before .before .args .place) (c .before .before .before .before .before .loop .start) (add binary32 (c .before .before .before .before .before .loop .start) x)) e) ∙ c .if1 .left in
+    (omega arith, ap (λ (x : Float). nearestFrom v (c .before .before .before .before .before .before .before .args .place) (add binary32 (l .start) x) (l .p + 1) (last - (l .p + 1))) e ∙ nearest-next v (c .before .before .before .before .before .before .before .args .place) (l .start) (l .p) last (c .before .before .before .before .loop-test .taken) q ∙ l .inv .1)
 
--- src/lib.rt:103:9
 returns-2 : tie.Need-returns-2 Inv-loop μ-loop
-returns-2 c = ?
+unfolding nearestPeriod ofBits
+returns-2 c =
+    let l = c .before .before .loop in
+    let v = voiceOf (c .before .before .before .before .args .file .now) in
+    let z : 0 ≡ l .p - 1 = omega (arith, c .if2 .taken) in
+    z ∙ sym (nearest-last v (c .before .before .before .before .args .place) (l .start) (l .p) (c .before .before .before .before .args .unit .«last_period») (c .before .loop-test .left)) ∙ l .inv .1
 
--- src/lib.rt:105:5
 sub-result : tie.Need-sub-result Inv-loop μ-loop
-sub-result c = ?
+sub-result c = search needs
 
--- src/lib.rt:84:1
 returns-3 : tie.Need-returns-3 Inv-loop μ-loop
-returns-3 c = ?
+unfolding nearestPeriod ofBits
+returns-3 c =
+    let l = c .before .before .loop in
+    let v = voiceOf (c .before .before .before .before .args .file .now) in
+    sym (nearest-last v (c .before .before .before .before .args .place) (l .start) (l .p) (c .before .before .before .before .args .unit .«last_period») (c .before .loop-test .left)) ∙ l .inv .1
 
 pub nearest-period-spec : {M : Type 1} → statement M
 nearest-period-spec =

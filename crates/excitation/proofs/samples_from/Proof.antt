@@ -1,42 +1,57 @@
+use borrow.Author.Needs.{needs}
+use native.Mathlib.Omega.{arith}
+use mathlib.Core.Path.{_≡_, sym, ap, subst, _∙_}
+use Prim.Native.Nat.{ℕ, _+_, _-_, _*_, _≤_}
+use Rattle.voice.specs.Voice.{voiceOf}
+use Rattle.voice.specs.Periods.{samplesOf, samplesFrom}
+use Rattle.excitation.proofs.WindowLaws.{samples-more, swapped}
 use Rattle.excitation.proofs.samples_from.Statement.{statement}
 use Rattle.excitation.proofs.samples_from.Tie as tie
-use Rattle.excitation.proofs.samples_from.Reads as reads
-use Rattle.excitation.proofs.samples_from.Lts as lts
-use Rattle.voice.proofs.periods.period_samples.Reads as period-samples-reads
 
 abbrev Inv-loop : tie.InvT-loop
-Inv-loop file d from to sum₀ p₀ sum p = ?
+Inv-loop file d from to sum₀ p₀ sum p = (from ≤ p) × ((p ≤ to) × ((sum ≡ samplesFrom (voiceOf file) p (to - p)) × (sum ≤ 16777215 * (to - p))))
 
 abbrev μ-loop : tie.MeasureT-loop
-μ-loop file d from to sum₀ p₀ sum p = ?
+μ-loop file d from to sum₀ p₀ sum p = p
 
--- src/lib.rt:119:5
 loop-holds : tie.Need-loop-holds Inv-loop μ-loop
-loop-holds c = ?
+unfolding samplesFrom
+loop-holds c =
+    let e : c .before .args .to - c .before .args .to ≡ 0 = omega arith in
+    (c .before .pre .1 .0, (omega arith, (rw e, omega arith)))
 
--- src/lib.rt:120:9
 sub-p : tie.Need-sub-p Inv-loop μ-loop
-sub-p c = ?
+sub-p c = search needs
 
--- src/lib.rt:121:16
 period-samples-requires : tie.Need-period-samples-requires Inv-loop μ-loop
-period-samples-requires c κs = ?
+period-samples-requires c κs = (c .before .before .before .pre .0, omega (arith, c .before .before .before .pre .1 .1 .0))
 
--- src/lib.rt:121:9
 add-sum : tie.Need-add-sum Inv-loop μ-loop
-add-sum c = ?
+add-sum c = let h = c .period-samples .ensures .1 in omega (arith, h, c .before .before .before .before .pre .1 .1 .1)
 
--- src/lib.rt:119:5
 loop-less : tie.Need-loop-less Inv-loop μ-loop
-loop-less c = ?
+loop-less c = search needs
 
--- src/lib.rt:119:5
 loop-again : tie.Need-loop-again Inv-loop μ-loop
-loop-again c = ?
+loop-again c =
+    let l = c .before .before .loop in
+    let v = voiceOf (c .before .before .before .before .args .file .now) in
+    let to = c .before .before .before .before .args .to in
+    let g = c .period-samples .ensures in
+    let k : l .p - 1 + 1 ≡ l .p = omega arith in
+    let m : l .sum + c .period-samples .result ≡ samplesFrom v (l .p - 1) (to - (l .p - 1)) =
+    ap (λ (x : ℕ). l .sum + x) (g .0)
+    ∙ swapped (l .sum) (samplesOf v (l .p - 1))
+    ∙ ap (λ (x : ℕ). samplesOf v (l .p - 1) + x) (l .inv .1 .1 .0 ∙ ap (λ (n : ℕ). samplesFrom v n (to - n)) (sym k))
+    ∙ samples-more v (l .p - 1) to (omega arith) in
+    (omega arith, (omega arith, (m, omega (arith, g .1))))
 
--- src/lib.rt:109:1
 returns : tie.Need-returns Inv-loop μ-loop
-returns c = ?
+returns c =
+    let l = c .before .loop in
+    let e : l .p ≡ c .before .before .before .args .from = omega arith in
+    let v = voiceOf (c .before .before .before .args .file .now) in
+    (l .inv .1 .1 .0 ∙ ap (λ (n : ℕ). samplesFrom v n (c .before .before .before .args .to - n)) e, subst (λ (n : ℕ). l .sum ≤ 16777215 * (c .before .before .before .args .to - n)) e (l .inv .1 .1 .1))
 
 pub samples-from-spec : {M : Type 1} → statement M
 samples-from-spec =

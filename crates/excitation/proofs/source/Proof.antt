@@ -1,45 +1,44 @@
+use mathlib.Core.Path.{sym, ap, subst, _∙_}
+use Rattle.voice.specs.declared.Codec.{Codec}
+use Rattle.excitation.specs.Source.{Holds, sourceBy}
+use Rattle.excitation.proofs.WindowLaws.{source-ulaw, source-within, source-g721}
 use borrow.Author.Needs.{needs}
 use Rattle.excitation.proofs.source.Statement.{statement}
 use Rattle.excitation.proofs.source.Tie as tie
-use Rattle.excitation.proofs.source.Reads as reads
-use Rattle.excitation.proofs.source.Lts as lts
-use Rattle.excitation.proofs.lead_in.Reads as lead-in-reads
 
--- src/lib.rt:32:24
 enum-told : tie.Need-enum-told
 enum-told c = search needs
 
--- src/lib.rt:34:25
 enum-told-2 : tie.Need-enum-told-2
 enum-told-2 c = search needs
 
--- src/lib.rt:34:21
 mul-n : tie.Need-mul-n
 mul-n c = search needs
 
--- src/lib.rt:35:17
 lead-in-requires : tie.Need-lead-in-requires
 lead-in-requires c κs = search needs
 
--- src/lib.rt:36:13
 sub-result : tie.Need-sub-result
 sub-result c = search needs
 
--- src/lib.rt:36:13
 part-result-start : tie.Need-part-result-start
 part-result-start c = search needs
 
--- src/lib.rt:36:13
 part-result-end : tie.Need-part-result-end
-part-result-end c = ?
+part-result-end c =
+    let q = c .before .enum-told2 .given .1 in
+    let h = subst (λ (k : Codec). Holds k (c .before .before .before .before .before .args .decoded .now) (c .before .before .before .before .before .args .residual .now)) q (c .before .before .before .before .before .pre) in
+    let w = source-within (c .before .before .before .before .before .args .decoded .now) (c .before .before .before .before .before .args .residual .now) h in
+    search needs
 
--- src/lib.rt:27:1
 returns : tie.Need-returns
-returns c = ?
+returns c = source-ulaw (c .before .before .before .before .args .residual .now) ∙ ap (λ (k : Codec). sourceBy k (c .before .before .before .before .args .residual .now)) (sym (c .enum-told .given .1))
 
--- src/lib.rt:27:1
 returns-2 : tie.Need-returns-2
-returns-2 c = ?
+returns-2 c =
+    let q = c .before .before .enum-told2 .given .1 in
+    let h = subst (λ (k : Codec). Holds k (c .before .before .before .before .before .before .args .decoded .now) (c .before .before .before .before .before .before .args .residual .now)) q (c .before .before .before .before .before .before .pre) in
+    source-g721 (c .before .before .before .before .before .before .args .decoded .now) (c .before .before .before .before .before .before .args .residual .now) h _ (c .before .lead-in .ensures .1) ∙ ap (λ (k : Codec). sourceBy k (c .before .before .before .before .before .before .args .residual .now)) (sym q)
 
 pub source-spec : {M : Type 1} → statement M
 source-spec =
