@@ -1,0 +1,1 @@
+-- The root of probe_call's definitions: there are none.
