@@ -174,7 +174,8 @@ fn simple_marks(voice: &Voice, units: &[Unit], marks: &mut Vec<usize>) -> Result
     Ok(())
 }
 
-fn modified_marks(
+/// The marks of the modified join, whatever the units are.
+pub fn modified_marks(
     rate: u32,
     contour: &[(f32, f32)],
     marks: &mut Vec<usize>,

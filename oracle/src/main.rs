@@ -18,10 +18,14 @@ mod float_inputs;
 mod floats;
 mod gen;
 mod good;
+#[cfg(feature = "probe_call")]
+mod marking;
 #[cfg(all(feature = "diphone_c", feature = "probe_voice"))]
 mod openings;
 #[cfg(feature = "probe")]
 mod probe;
+#[cfg(feature = "probe_call")]
+mod probe_call;
 #[cfg(feature = "probe_voice")]
 mod probe_voice;
 mod reference;
@@ -44,7 +48,8 @@ const USAGE: &str = "usage:
   oracle statements [--seed N] [--from N] [--count N] --out FILE
   oracle floats [--seed N] [--count N] [--all]
   oracle codecs [--seed N] [--count N]
-  oracle openings [--seed N] [--from N] [--count N]";
+  oracle openings [--seed N] [--from N] [--count N]
+  oracle marks [--seed N] [--from N] [--count N]";
 
 fn main() -> ExitCode {
     let words: Vec<String> = std::env::args().skip(1).collect();
@@ -68,6 +73,10 @@ fn main() -> ExitCode {
         "openings" => openings::run(&args),
         #[cfg(not(all(feature = "diphone_c", feature = "probe_voice")))]
         "openings" => return usage("built without the features diphone_c and probe_voice"),
+        #[cfg(feature = "probe_call")]
+        "marks" => marking::run(&args),
+        #[cfg(not(feature = "probe_call"))]
+        "marks" => return usage("built without the feature probe_call"),
         other => return usage(&format!("unknown command {other}")),
     };
     match agreed {

@@ -1,0 +1,170 @@
+//! `oracle marks`: reading a sheet and making its pitch marks, beside document
+//! 01's reading and the Rust.
+
+use crate::args::Args;
+use crate::call::{self, Ending, Join, Settings};
+use crate::diphone::access;
+use crate::gen::voices::{self, Extent};
+use crate::gen::{damaged_calls, damaged_sheets, sheets};
+use crate::probe_call;
+use crate::reference::{self, Parsed};
+use crate::refusal::Refusal;
+use crate::report::Report;
+use crate::rng::Rng;
+use crate::sheet::{self, Sheet};
+use crate::voicefile;
+
+/// Voices, each with some sheets, in a run that is not told otherwise.
+const CASES: u64 = 2_000;
+const SHEETS_PER_VOICE: usize = 3;
+const DAMAGED_SHEETS: u64 = 40;
+
+/// A buffer for all marks that a call may have.
+const ROOM: usize = 4 * call::MAX_MARKS + 8;
+const SHORT_BUFFER: u32 = 13;
+
+#[derive(Default)]
+struct Counts {
+    sheets: u64,
+    marks: u64,
+    /// By the number answered; 0 counts the sheets whose marks were made.
+    answers: [u64; 16],
+    beside_rust: u64,
+    not_asked: u64,
+}
+
+pub fn run(args: &Args) -> bool {
+    let mut report = Report::default();
+    let mut counts = Counts::default();
+    let cases = args.count.unwrap_or(CASES);
+    for case in args.from..args.from + cases {
+        let rng = &mut Rng::for_case(args.seed, 7_000_000 + case);
+        let words = voices::vocabulary(rng);
+        let spec = voices::voice(rng, &words, Extent::Small, true);
+        let file = voices::file(&spec.sections());
+        for _ in 0..SHEETS_PER_VOICE {
+            let sheet = sheets::sheet(rng, &words, spec.header.rate);
+            check(&file, &sheet::write(&sheet), &mut report, &mut counts);
+        }
+    }
+    for call in damaged_calls::all() {
+        check(&call.voice, &call.sheet, &mut report, &mut counts);
+    }
+    for case in 0..DAMAGED_SHEETS {
+        let rng = &mut Rng::for_case(args.seed, 2_000_000 + case);
+        let words = voices::vocabulary(rng);
+        let small = damaged_sheets::small(rng, &words.phones);
+        for damaged in damaged_sheets::of_sheet(&small) {
+            check_read(&damaged.bytes, damaged.label, &mut report, &mut counts);
+        }
+    }
+    for limit in damaged_sheets::limits() {
+        check_read(&limit.bytes, limit.label, &mut report, &mut counts);
+    }
+    print(args.seed, cases, &report, &counts);
+    report.failures == 0
+}
+
+/// A sheet that is refused with 8 or 9, or read.
+fn check_read(bytes: &[u8], label: Option<Refusal>, report: &mut Report, counts: &mut Counts) {
+    match (label, sheet::read(bytes)) {
+        (Some(refusal), _) => answered(bytes, 8000, Err(refusal), report, counts),
+        (None, Ok(sheet)) => {
+            let expected = marks(&sheet, 8000);
+            answered(bytes, 8000, expected, report, counts);
+        }
+        (None, Err(_)) => report.check(false, || "a good sheet is refused".to_string()),
+    }
+}
+
+/// A sheet at the rate of a voice.
+fn check(file: &[u8], bytes: &[u8], report: &mut Report, counts: &mut Counts) {
+    let Ok(voice) = voicefile::open(file) else {
+        return;
+    };
+    let rate = voice.header.rate;
+    match sheet::read(bytes) {
+        Err(refusal) => answered(bytes, rate, Err(refusal), report, counts),
+        Ok(sheet) => {
+            let expected = marks(&sheet, rate);
+            answered(bytes, rate, expected, report, counts);
+            beside_rust(file, &sheet, bytes, rate, report, counts);
+        }
+    }
+}
+
+fn marks(sheet: &Sheet, rate: u32) -> Result<Vec<usize>, Refusal> {
+    let mut marks = Vec::new();
+    call::modified_marks(rate, &sheet.contour(), &mut marks)?;
+    Ok(marks)
+}
+
+/// The answer here, with enough room, with just enough and with one too few.
+fn answered(
+    bytes: &[u8],
+    rate: u32,
+    expected: Result<Vec<usize>, Refusal>,
+    report: &mut Report,
+    counts: &mut Counts,
+) {
+    counts.sheets += 1;
+    let expected = expected.map_err(|refusal| refusal.number() as u32);
+    let made = expected.as_ref().map_or(0, Vec::len);
+    counts.marks += made as u64;
+    let mut rooms = vec![(ROOM, expected.clone()), (4 * made, expected.clone())];
+    if made > 0 {
+        rooms.push((4 * made - 1, Err(SHORT_BUFFER)));
+    }
+    for (room, expected) in rooms {
+        let (found, kept) = probe_call::pitch_marks(bytes, rate, room);
+        counts.answers[found.as_ref().err().copied().unwrap_or(0) as usize % 16] += 1;
+        report.equal(&expected, &found, || format!("marks in {room} bytes"));
+        report.check(kept, || format!("bytes past the marks in {room} bytes"));
+    }
+}
+
+/// The Rust's marks, where its walk ends.
+fn beside_rust(
+    file: &[u8],
+    sheet: &Sheet,
+    bytes: &[u8],
+    rate: u32,
+    report: &mut Report,
+    counts: &mut Counts,
+) {
+    let (Ok(found), _) = probe_call::pitch_marks(bytes, rate, ROOM) else {
+        return;
+    };
+    if call::ending(&sheet.contour()) != Ending::Ends {
+        counts.not_asked += 1;
+        return;
+    }
+    let Parsed::Voice(rust) = reference::parse(file) else {
+        return;
+    };
+    counts.beside_rust += 1;
+    let utt = reference::prepared(sheet, Settings::new(Join::Modified));
+    let theirs = access::pitch_marks(&rust, &utt);
+    report.equal(&theirs, &found, || "the Rust's marks".to_string());
+}
+
+fn print(seed: u64, cases: u64, report: &Report, counts: &Counts) {
+    println!("oracle marks: seed {seed}, {cases} voices");
+    println!("  sheets: {}, marks: {}", counts.sheets, counts.marks);
+    let answers: Vec<String> = counts
+        .answers
+        .iter()
+        .enumerate()
+        .filter(|(_, count)| **count > 0)
+        .map(|(number, count)| format!("{number}: {count}"))
+        .collect();
+    println!("  answers by number: {}", answers.join(", "));
+    println!(
+        "  compared with the Rust: {} sheets; not asked, as it would not end soon: {}",
+        counts.beside_rust, counts.not_asked
+    );
+    println!(
+        "oracle marks: {} checks, {} mismatches",
+        report.checks, report.failures
+    );
+}

@@ -1,0 +1,36 @@
+//! The functions of libprobe_call.a.
+
+unsafe extern "C" {
+    fn probe_pitch_marks(
+        sheet: *const u8,
+        sheet_len: usize,
+        rate: u32,
+        marks: *mut u8,
+        marks_len: usize,
+    ) -> u32;
+}
+
+/// The pitch marks, as far as a buffer of `room` bytes goes, or the number of
+/// the refusal; and whether the bytes past the marks are as they were.
+pub fn pitch_marks(sheet: &[u8], rate: u32, room: usize) -> (Result<Vec<usize>, u32>, bool) {
+    const GUARD: u8 = 0x5A;
+    let mut marks = vec![GUARD; room];
+    let (out, length) = (marks.as_mut_ptr(), marks.len());
+    // SAFETY: slices of their lengths that do not overlap.
+    let answer = unsafe { probe_pitch_marks(sheet.as_ptr(), sheet.len(), rate, out, length) };
+    let filled = match answer % 16 {
+        0 => answer as usize / 4,
+        _ => 0,
+    };
+    let kept = marks[filled.min(room)..].iter().all(|byte| *byte == GUARD);
+    let found = match answer % 16 {
+        0 => Ok(words(&marks[..filled.min(room)])),
+        _ => Err(answer),
+    };
+    (found, kept)
+}
+
+fn words(bytes: &[u8]) -> Vec<usize> {
+    let word = |four: &[u8]| u32::from_le_bytes(four.try_into().unwrap_or_default()) as usize;
+    bytes.chunks(4).map(word).collect()
+}
