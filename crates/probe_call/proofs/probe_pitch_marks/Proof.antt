@@ -1,12 +1,7 @@
-use mathlib.Core.Path.{_≡_, refl, sym, ap, subst, _∙_}
+use mathlib.Core.Path.{sym, _∙_}
 use borrow.Author.Needs.{needs}
 use Rattle.probe_call.proofs.probe_pitch_marks.Statement.{statement}
 use Rattle.probe_call.proofs.probe_pitch_marks.Tie as tie
-use Rattle.probe_call.proofs.probe_pitch_marks.Reads as reads
-use Rattle.probe_call.proofs.probe_pitch_marks.Lts as lts
-use Rattle.probe_call.proofs.store_pitch_marks.Reads as store-pitch-marks-reads
-use Rattle.refusal.proofs.number.Reads as number-reads
-use Rattle.sheet.proofs.read_sheet.Reads as read-sheet-reads
 
 read-sheet-requires : tie.Need-read-sheet-requires
 read-sheet-requires c κs = search needs

@@ -1,5 +1,5 @@
 use Rattle.marks.specs.Checking.{Bounded}
-use mathlib.Core.Path.{_≡_, refl, sym, ap, subst, _∙_}
+use mathlib.Core.Path.{sym, subst, _∙_}
 use native.Mathlib.Omega.{arith}
 use Rattle.sheet.specs.Sheet.{sheetOf}
 use Rattle.marks.specs.PitchMarks.{pitchMarks}
@@ -7,11 +7,6 @@ use Rattle.marks.proofs.CheckLaws.{checked-made}
 use borrow.Author.Needs.{needs}
 use Rattle.probe_call.proofs.store_pitch_marks.Statement.{statement}
 use Rattle.probe_call.proofs.store_pitch_marks.Tie as tie
-use Rattle.probe_call.proofs.store_pitch_marks.Reads as reads
-use Rattle.probe_call.proofs.store_pitch_marks.Lts as lts
-use Rattle.marks.proofs.check_marks.Reads as check-marks-reads
-use Rattle.marks.proofs.store_marks.Reads as store-marks-reads
-use Rattle.refusal.proofs.number.Reads as number-reads
 
 check-marks-requires : tie.Need-check-marks-requires
 check-marks-requires c κs = search needs

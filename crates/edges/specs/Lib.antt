@@ -1,0 +1,1 @@
+-- The root of edges' definitions: there are none.
