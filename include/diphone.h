@@ -1,4 +1,4 @@
-/* The diphone voice, for programs in C. Link libdiphone_c.a.
+/* The diphone voice, for programs in C on x86-64. Link libdiphone_c.a.
  *
  * Every function takes numbers and byte buffers alone, ends for every input, allocates nothing and
  * keeps nothing between calls. A buffer is a pointer and a number of bytes; with 0 bytes the pointer
@@ -22,10 +22,11 @@ extern "C" {
 enum {
     DIPHONE_BAD_MAGIC = 1,       /* the first 8 bytes are not FLRSDAT and 0x01 */
     DIPHONE_SECTION_CUT = 2,     /* a section is cut short, or its name is not UTF-8 */
-    DIPHONE_NOT_DIPHONE = 3,     /* the voice has another back end */
+    DIPHONE_NOT_DIPHONE = 3,     /* the voice names another back end, or names it not in UTF-8 */
     DIPHONE_MISSING_SECTION = 4, /* a needed section is missing */
     DIPHONE_BAD_HEADER = 5,      /* the header is cut short or outside its limits */
-    DIPHONE_BAD_TABLES = 6,      /* the voice's tables do not fit each other */
+    DIPHONE_BAD_TABLES = 6,      /* the voice's tables do not fit each other, or the residual has
+                                    more than 16,777,215 bytes */
     DIPHONE_BAD_INDEX = 7,       /* the index is cut short, empty, has a name that is not UTF-8 or
                                     stands twice, or an entry that ends past the frames */
     DIPHONE_SHORT_BUFFER = 13    /* a buffer is shorter than stated */
@@ -40,8 +41,9 @@ enum {
 
 /* Opens a voice file.
  *
- * Takes:   voice, the file's bytes; index, 8 bytes for each entry of the voice's index or more;
- *          record, DIPHONE_VOICE_BYTES or more.
+ * Takes:   voice, the file's bytes; index, 8 bytes for each entry of the voice's index or more
+ *          (an entry has 5 bytes at least, so 8 * (voice_len / 5) always do); record,
+ *          DIPHONE_VOICE_BYTES or more.
  * Answers: 0; or 1 to 7 for the voice file, in this order; or 13 if index or record is too short.
  * Leaves:  on 0, in index the sorted index (for each entry, in the order of the names' bytes, the
  *          file offset of its name-length byte, 8 bytes), in record the voice's record; bytes past

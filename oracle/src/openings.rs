@@ -124,7 +124,7 @@ fn opened(rng: &mut Rng, file: &[u8], voice: &Voice, report: &mut Report, counts
     let [mut index, mut record] = lengths.map(|length| rng.bytes(length));
     let expected = expected(voice, &index, &record);
     let answer = diphone_c::open(file, &mut index, &mut record);
-    counts.answers[answer as usize] += 1;
+    counts.answers[(answer as usize).min(SHORT_BUFFER)] += 1;
     report.equal(&0, &answer, || "a good voice".to_string());
     report.equal(&expected, &(index.clone(), record), || "index and record".to_string());
     match reference::parse(file) {

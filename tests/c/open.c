@@ -1,5 +1,5 @@
-/* Opens document 01's example voice through the C interface, and refuses what is unfit. Ends with 0
- * if all is as it should be. */
+/* Opens a voice like document 01's example through the C interface, and refuses what is unfit. Ends
+ * with 0 if all is as it should be. */
 #include "diphone.h"
 
 #include <stdio.h>
@@ -19,6 +19,8 @@ static void expect(int holds, const char *what)
 
 static uint8_t file[4096];
 static size_t length;
+static size_t ends[8]; /* where sections begin, but for the first */
+static size_t sections;
 
 static void bytes(const void *data, size_t count)
 {
@@ -37,6 +39,8 @@ static void u32(uint32_t number)
 static void section(const char *name, uint32_t data_length)
 {
     uint8_t name_length = (uint8_t)strlen(name);
+    ends[sections] = length;
+    sections += 1;
     bytes(&name_length, 1);
     bytes(name, name_length);
     u32(data_length);
@@ -59,6 +63,7 @@ static size_t example(uint32_t codec)
     size_t entries;
 
     length = 0;
+    sections = 0;
     bytes("FLRSDAT\x01", 8);
     section("voice.backend", 9);
     bytes(" diphone\n", 9);
@@ -155,15 +160,25 @@ int main(void)
     example(2);
     refused(open_with(0, 0), DIPHONE_BAD_HEADER, "another codec, before 13");
 
-    /* Every front of the file is refused. */
+    entries = example(0);
+    file[8 + 1 + 13 + 4 + 1] = 'D';
+    refused(open_with(64, 80), DIPHONE_NOT_DIPHONE, "another back end");
+    entries = example(0);
+    file[entries - 18 - 17 - 12 + 4] = 6; /* the second offset, above the third */
+    refused(open_with(64, 80), DIPHONE_BAD_TABLES, "a falling offset");
+    entries = example(0);
+    file[entries + 9] = 2; /* the first entry's first half, one past the frames */
+    refused(open_with(64, 80), DIPHONE_BAD_INDEX, "an entry past the frames");
+
+    /* Every front of the file is refused: between two sections as one with sections missing. */
     example(0);
     for (size_t cut = 0; cut < length; cut += 1) {
-        reset();
-        uint32_t answer = diphone_open(file, cut, index_buffer, 64, record_buffer, 80);
         uint32_t number = cut < 8 ? DIPHONE_BAD_MAGIC : DIPHONE_SECTION_CUT;
-        if (answer == DIPHONE_MISSING_SECTION)
-            number = DIPHONE_MISSING_SECTION; /* cut between two sections */
-        refused(answer, number, "a front of the file");
+        for (size_t i = 0; i < sections; i += 1)
+            if (cut == ends[i])
+                number = DIPHONE_MISSING_SECTION;
+        reset();
+        refused(diphone_open(file, cut, index_buffer, 64, record_buffer, 80), number, "a front of the file");
     }
     if (failures == 0)
         printf("open: passed\n");

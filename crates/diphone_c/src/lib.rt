@@ -1,4 +1,5 @@
-// The functions that a program in C calls: numbers and byte slices alone.
+// The functions that a program in C calls: numbers and byte slices alone. `report` is the C
+// header's `record`, which is a word of the logic.
 ghost use mathlib.Core.Path.{_≡_};
 ghost use Prim.Native.Nat.{_≤_};
 ghost use lib.ListN.{length};

@@ -23,7 +23,8 @@ fn lead_in(n: usize) -> usize
 }
 
 // The source of a period: a part of the decoded buffer, whose front holds the period, or the
-// voice's residual of it.
+// voice's residual of it. A caller that has no sample to fill decodes nothing and does not ask; to
+// count at most the period's samples of it is the caller's.
 pub fn source<'a>(decoded: &'a [u8], residual: &'a [u8], codec: Codec) -> &'a [u8]
     requires { ⌜ sources.Holds codec (now decoded) (now residual) ⌝ }
     ensures { λ r. ⌜ now r ≡ sources.sourceBy codec (now (residual .entry)) ⌝ }
@@ -86,7 +87,8 @@ pub fn nearest_period(file: &[u8], d: DiphoneVoice, unit: Unit, place: f32) -> u
         IsOpen (now file) d ×
         ((unit .«first_period» ≤ unit .«last_period») × (unit .«last_period» ≤ d .header .frames))
         ⌝ }
-    ensures { λ r. ⌜ r ≡ places.nearestPeriod (voiceOf (now (file .entry))) unit place ⌝ }
+    ensures { λ r.
+        ⌜ (r ≡ places.nearestPeriod (voiceOf (now (file .entry))) unit place) × (r < d .header .frames) ⌝ }
 {
     let mut start = 0.0;
     let mut p = unit.first_period;
@@ -105,7 +107,7 @@ pub fn nearest_period(file: &[u8], d: DiphoneVoice, unit: Unit, place: f32) -> u
     p - 1
 }
 
-// The samples of the periods from p up to one of at most 255 more.
+// The samples of the periods from `from` on and before `to`, at most 255 of them.
 pub fn samples_from(file: &[u8], d: DiphoneVoice, from: usize, to: usize) -> usize
     requires { ⌜ IsOpen (now file) d × ((from ≤ to) × ((to ≤ d .header .frames) × (to ≤ from + 255))) ⌝ }
     ensures { λ r.

@@ -1,4 +1,4 @@
-// Units and marks, exported so that the comparison with the Rust can read them. A refusal is
+// Pitch marks, exported so that the comparison with the Rust can read them. A refusal is
 // answered by its number, anything else by 16 times a count.
 ghost use mathlib.Core.Path.{_≡_};
 ghost use Rattle.sheet.specs.Places.{sheetPlaces, answerIn};

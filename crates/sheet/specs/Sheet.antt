@@ -43,7 +43,7 @@ abbrev pub malformedIf : {A : Type 0} → Bool → Got A → Got A
 malformedIf true g = fails BadSheet
 malformedIf false g = g
 
--- 'groups of seven bits, lowest first, bit 7 set on all but the last, at most five groups, shortest form': n groups more may follow, and `first`
+-- 'groups of seven bits, lowest first, bit 7 set on all but the last, at most five groups, shortest form': at most n groups, and `first`
 -- says whether this is the first; the last of several is not 0, else a shorter form had been there
 unfoldable pub groups : ℕ → Bool → List ℕ → Got ℕ
 groups zero first bs = fails BadSheet

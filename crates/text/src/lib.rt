@@ -79,7 +79,7 @@ fn complete(w: Wait) -> bool
     }
 }
 
-// Where the first byte that is not ASCII stands; the end where all are.
+// A place up to which all is ASCII: that of the first byte that is not, or the end.
 fn ascii_end(s: &[u8]) -> usize
     ensures { λ r.
         ⌜

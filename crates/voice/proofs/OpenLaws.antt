@@ -41,6 +41,9 @@ module _ (file : List ℕ) (d : DiphoneVoice) (o : IsOpen file d) where
   frames-is : v .header .frames ≡ frames
   frames-is = ap (λ (h : VoiceHeader). h .frames) (header-is file d (o .places))
 
+  pub frames-some : 0 < frames
+  frames-some = subst (λ (n : ℕ). 0 < n) frames-is (opens file (o .fit) .someFrames)
+
   pub residual-most : d .residual .len ≤ 16777215
   residual-most = leb-true _ _ (every-at (tableTests file d) tests 0)
 

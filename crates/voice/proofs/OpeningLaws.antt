@@ -1,12 +1,13 @@
 -- What a voice that opens shows.
-use mathlib.Core.Path.{_≡_}
-use mathlib.Core.Bool.{true}
+use mathlib.Core.Path.{_≡_, _∙_}
+use mathlib.Core.Bool.{true, false}
 use mathlib.Core.List.{List}
-use mathlib.Core.Option.{none}
+use mathlib.Core.Option.{none, some}
 use Prim.Native.Nat.{ℕ, _≤_}
 use borrow.Author.Tests.{leb-true}
 use Rattle.base.specs.Text.{ascii}
-use Rattle.base.proofs.ListLaws.{and-left, and-right, every-at, failing-none}
+use Rattle.base.proofs.ListLaws.{and-left, and-right, every-at, failing-none, failing-passed, failing-here}
+use Rattle.refusal.specs.declared.Refusal.the-variants.{SectionCut, NotDiphone}
 use Rattle.container.specs.Sections.{hasMagic, sections, isDiphone, find, spanOf, bytesAt}
 use Rattle.voice.specs.Header.{inScale, goodNumbers, goodScales, goodHeader}
 use Rattle.voice.specs.Voice.{Voice, voiceAt, voiceOf, placesOf}
@@ -33,6 +34,15 @@ passed file e =
     let t = failing-none _ _ _ (h .1) in
     let i = failing-none _ _ _ (t .1) in
     record { magic = a .0; whole = b .0; backend = c .0; needed = d .0; header = h .0; tables = t .0; index = i .0 }
+
+-- the order: a section cut short is found before the backend is looked at, and that before what is missing
+pub cut-second : (file : List ℕ) → hasMagic file ≡ true → sections file .whole ≡ false → openingRefusal file ≡ some SectionCut
+unfolding openingRefusal
+cut-second file m w = failing-passed _ _ _ m ∙ failing-here _ _ _ w
+
+pub backend-third : (file : List ℕ) → hasMagic file ≡ true → sections file .whole ≡ true → isDiphone file ≡ false → openingRefusal file ≡ some NotDiphone
+unfolding openingRefusal
+backend-third file m w b = failing-passed _ _ _ m ∙ failing-passed _ _ _ w ∙ failing-here _ _ _ b
 
 pub record Opens (v : Voice) : Type 0 where
   pub someFrames : 1 ≤ v .header .frames

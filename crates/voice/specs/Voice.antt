@@ -84,7 +84,7 @@ abbrev pub sizesAt : List ℕ → Found → Option (List ℕ)
 sizesAt file (At s) = some (bytesAt file s)
 sizesAt file Missing = none
 
--- the voice that an open one's numbers stand for, beside its file
+-- the voice whose header and tables stand at these places of a file
 unfoldable pub voiceAt : List ℕ → DiphoneVoice → Voice
 voiceAt file d =
     record {

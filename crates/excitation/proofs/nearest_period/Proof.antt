@@ -1,3 +1,4 @@
+use Rattle.voice.proofs.OpenLaws.{frames-some}
 use borrow.Author.Needs.{needs}
 use native.Mathlib.Omega.{arith}
 use mathlib.Core.Path.{_≡_, refl, sym, ap, _∙_}
@@ -11,13 +12,13 @@ use Rattle.excitation.proofs.nearest_period.Statement.{statement}
 use Rattle.excitation.proofs.nearest_period.Tie as tie
 
 abbrev Inv-loop : tie.InvT-loop
-Inv-loop file d place start₀ p₀ last start p = (p₀ ≤ p) × (nearestFrom (voiceOf file) place start p (last - p) ≡ nearestFrom (voiceOf file) place start₀ p₀ (last - p₀))
+Inv-loop file d place start₀ p₀ last start p = (p ≤ last) × (nearestFrom (voiceOf file) place start p (last - p) ≡ nearestFrom (voiceOf file) place start₀ p₀ (last - p₀))
 
 abbrev μ-loop : tie.MeasureT-loop
 μ-loop file d place start₀ p₀ last start p = last - p
 
 loop-holds : tie.Need-loop-holds Inv-loop μ-loop
-loop-holds c = (omega arith, refl)
+loop-holds c = (c .before .pre .1 .0, refl)
 
 period-samples-requires : tie.Need-period-samples-requires Inv-loop μ-loop
 period-samples-requires c κs = (c .before .before .before .pre .0, omega (arith, c .before .before .before .pre .1 .1))
@@ -38,7 +39,7 @@ returns c =
     let v = voiceOf (c .before .before .before .before .before .before .before .args .file .now) in
     let e = c .before .before .u32-to-f32 .ensures ∙ ap f32Of (c .before .before .before .period-samples .ensures .0) in
     let q = sym (c .before .is-nearer .ensures ∙ ap (λ (x : Float). nearer (c .before .before .before .before .before .before .before .args .place) (c .before .before .before .before .before .loop .start) (add binary32 (c .before .before .before .before .before .loop .start) x)) e) ∙ c .if1 .taken in
-    sym (nearest-here v (c .before .before .before .before .before .before .before .args .place) (l .start) (l .p) (c .before .before .before .before .before .before .before .args .unit .«last_period») (c .before .before .before .before .loop-test .taken) q) ∙ l .inv .1
+    (sym (nearest-here v (c .before .before .before .before .before .before .before .args .place) (l .start) (l .p) (c .before .before .before .before .before .before .before .args .unit .«last_period») (c .before .before .before .before .loop-test .taken) q) ∙ l .inv .1, omega (arith, c .before .before .before .before .before .before .before .pre .1 .1))
 
 add-p : tie.Need-add-p Inv-loop μ-loop
 add-p c = search needs
@@ -60,8 +61,9 @@ unfolding nearestPeriod ofBits
 returns-2 c =
     let l = c .before .before .loop in
     let v = voiceOf (c .before .before .before .before .args .file .now) in
+    let some = frames-some (c .before .before .before .before .args .file .now) (c .before .before .before .before .args .d) (c .before .before .before .before .pre .0) in
     let z : 0 ≡ l .p - 1 = omega (arith, c .if2 .taken) in
-    z ∙ sym (nearest-last v (c .before .before .before .before .args .place) (l .start) (l .p) (c .before .before .before .before .args .unit .«last_period») (c .before .loop-test .left)) ∙ l .inv .1
+    (z ∙ sym (nearest-last v (c .before .before .before .before .args .place) (l .start) (l .p) (c .before .before .before .before .args .unit .«last_period») (c .before .loop-test .left)) ∙ l .inv .1, some)
 
 sub-result : tie.Need-sub-result Inv-loop μ-loop
 sub-result c = search needs
@@ -71,7 +73,7 @@ unfolding nearestPeriod ofBits
 returns-3 c =
     let l = c .before .before .loop in
     let v = voiceOf (c .before .before .before .before .args .file .now) in
-    sym (nearest-last v (c .before .before .before .before .args .place) (l .start) (l .p) (c .before .before .before .before .args .unit .«last_period») (c .before .loop-test .left)) ∙ l .inv .1
+    (sym (nearest-last v (c .before .before .before .before .args .place) (l .start) (l .p) (c .before .before .before .before .args .unit .«last_period») (c .before .loop-test .left)) ∙ l .inv .1, omega (arith, c .before .before .before .before .pre .1 .1, c .if2 .left))
 
 pub nearest-period-spec : {M : Type 1} → statement M
 nearest-period-spec =
