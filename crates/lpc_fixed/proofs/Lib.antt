@@ -1,0 +1,2 @@
+-- Laws about the fixed filter's words.
+pub mod ValueLaws

@@ -1,0 +1,1 @@
+-- The root of lpc_fixed's definitions.
