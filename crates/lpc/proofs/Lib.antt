@@ -2,3 +2,4 @@
 pub mod FilterLaws
 pub mod RingLaws
 pub mod StateLaws
+pub mod RunLaws

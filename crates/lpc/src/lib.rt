@@ -1,4 +1,7 @@
 // The LPC synthesis filter, fixed and float, one pitch period at a time.
+ghost use mathlib.Core.Path.{_≡_};
+ghost use Prim.Native.Nat.{_≤_};
+ghost use Rattle.lpc.specs.Ring.{placeBefore, placeAfter};
 
 // Which arithmetic the filter uses.
 pub enum ResynthType {
@@ -19,4 +22,20 @@ pub struct FilterState {
     pub coeff_range: f32,
     pub fixed: [u32; 33],
     pub float: [f32; 33],
+}
+
+// The ring's place before `at`.
+pub fn place_before(order: usize, at: usize) -> usize
+    requires { ⌜ at ≤ order ⌝ }
+    ensures { λ r. ⌜ (r ≡ placeBefore order at) × (r ≤ order) ⌝ }
+{
+    if at == 0 { order } else { at - 1 }
+}
+
+// The ring's place after `at`.
+pub fn place_after(order: usize, at: usize) -> usize
+    requires { ⌜ at ≤ order ⌝ }
+    ensures { λ r. ⌜ (r ≡ placeAfter order at) × (r ≤ order) ⌝ }
+{
+    if at == order { 0 } else { at + 1 }
 }
