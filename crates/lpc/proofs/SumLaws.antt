@@ -1,45 +1,52 @@
 -- A loop over a row: what is still to be added, one turn, and the end; and the filters' sums as such loops make them.
 use mathlib.Core.Path.{_≡_, refl, ap, _∙_}
 use mathlib.Core.List.{List, [], _∷_, map}
-use Prim.Native.Nat.{ℕ, suc, _+_, _*_, _%_, _^_, _≤_, _<_}
+use Prim.Native.Nat.{ℕ, suc, _+_, _≤_, _<_}
 use native.Mathlib.Numerals.{add-one}
 use native.Mathlib.Omega.{arith}
 use lib.IntN.{ℤ}
-use lib.ListN.{length, getD, take, drop, length-take, drop-of-length-le}
-use lib.Seq.{drop-cons, getD-take, length-take-le}
+use lib.ListN.{length, getD, drop, drop-of-length-le}
+use lib.Seq.{drop-cons}
 use lib.Ieee.{Float}
+use Rattle.base.specs.Buffers.{upto}
 use Rattle.base.specs.Words.{low}
+use Rattle.base.proofs.BufferLaws.{length-upto, getD-upto}
 use Rattle.lpc.specs.Fixed.{fixedSum}
 use Rattle.lpc.specs.Floating.{floatSum}
 use Rattle.lpc.specs.Ring.{placeBefore, tap}
 use Rattle.lpc.specs.Sums.{summed, fixedStep, floatStep}
 
--- the places start, at and place are the ring's; values and history are the arrays, and d is what a place past an array's end counts
+-- values and history are arrays, and d is what a place past an array's end counts
 module _ {A : Type 0} (step : A → A → A → A) (d start : A) (values history : List A) (order place : ℕ) where
-  abbrev pub past : ℕ → A
+  abbrev past : ℕ → A
   past k = getD history (tap order place k) d
 
+  abbrev row : List A
+  row = upto (λ k. getD values k d) order
+
   abbrev whole : A
-  whole = summed step start (take order values) past 0
+  whole = summed step start row past 0
 
   pub record Summing (acc : A) (at k : ℕ) : Type 0 where
     pub few : k ≤ order
     pub low : at ≤ order
     pub here : at ≡ tap order place k
-    pub rest : summed step acc (drop k (take order values)) past k ≡ whole
+    pub rest : summed step acc (drop k row) past k ≡ whole
 
   pub sum-start : (at : ℕ) → at ≡ placeBefore order place → at ≤ order → Summing start at 0
   unfolding tap
   sum-start at e l = record { few = omega arith; low = l; here = e; rest = refl }
 
   module _ (acc : A) (at k : ℕ) (h : Summing acc at k) where
-    module _ (room : order ≤ length values) (l : k < order) where
-      rest-turn : summed step (step acc (getD values k d) (getD history at d)) (drop (k + 1) (take order values)) past (k + 1) ≡ whole
+    module _ (l : k < order) where
+      row-turn : drop k row ≡ getD values k d ∷ drop (suc k) row
+      row-turn =
+          let m : k < length row = rw length-upto l in
+          drop-cons row k d m ∙ rw (getD-upto (λ k. getD values k d) order k d l)
+
+      rest-turn : summed step (step acc (getD values k d) (getD history at d)) (drop (k + 1) row) past (k + 1) ≡ whole
       unfolding summed
-      rest-turn =
-          let m : k < length (take order values) = rw (length-take-le order values room) l in
-          let e : drop k (take order values) ≡ getD values k d ∷ drop (suc k) (take order values) = drop-cons (take order values) k d m ∙ rw (getD-take order values k d l) in
-          rw (add-one k, h .here) (rw e at (h .rest))
+      rest-turn = rw (add-one k, h .here) (rw row-turn at (h .rest))
 
       pub sum-turn : (acc′ : A) (at′ : ℕ) → acc′ ≡ step acc (getD values k d) (getD history at d) → at′ ≡ placeBefore order at → at′ ≤ order → Summing acc′ at′ (k + 1)
       unfolding tap
@@ -54,8 +61,8 @@ module _ {A : Type 0} (step : A → A → A → A) (d start : A) (values history
     pub sum-end : order ≤ k → acc ≡ whole
     unfolding summed
     sum-end l =
-        let m : length (take order values) ≤ k = rw length-take (omega arith) in
-        rw (drop-of-length-le (take order values) m) at (h .rest)
+        let m : length row ≤ k = rw length-upto l in
+        rw (drop-of-length-le row m) at (h .rest)
 
 -- ---- the filters' sums
 

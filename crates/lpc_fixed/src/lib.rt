@@ -1,11 +1,12 @@
 // The fixed filter: words of 32 bits in two's complement.
 ghost use mathlib.Core.Path.{_≡_};
 ghost use Prim.Native.Nat.{_≤_};
-ghost use lib.ListN.{take, getD};
+ghost use lib.ListN.{getD};
+ghost use Rattle.base.specs.Buffers.{upto};
 ghost use Rattle.base.specs.Words.{low};
 ghost use Rattle.lpc.specs.Fixed.{rowValue};
 ghost use Rattle.lpc.specs.Ring.{tap};
-ghost use Rattle.lpc_fixed.specs.Sums.{wordSum};
+ghost use Rattle.lpc.specs.Sums.{summed, fixedStep};
 
 // The word of an i64.
 fn i64_to_word(x: i64) -> u64
@@ -26,7 +27,7 @@ fn row_value(min_q: i32, range_q: i32, q: u16) -> u32
 // The accumulator `start` with the `order` products added: value k times the output k + 1 back.
 fn sum(start: u32, values: &[u32; 32], history: &[u32; 33], order: usize, place: usize) -> u32
     requires { ⌜ (order ≤ 32) × (place ≤ order) ⌝ }
-    ensures { λ r. ⌜ r ≡ wordSum start (take order (now (values .entry))) (λ k. getD (now (history .entry)) (tap order place k) 0) 0 ⌝ }
+    ensures { λ r. ⌜ r ≡ summed fixedStep start (upto (λ k. getD (now (values .entry)) k 0) order) (λ k. getD (now (history .entry)) (tap order place k) 0) 0 ⌝ }
 {
     let mut acc = start;
     let mut at = lpc::place_before(order, place);

@@ -1,68 +1,61 @@
+use mathlib.Core.Path.{_∙_}
+use Prim.Native.Nat.{_-_}
+use borrow.Author.Needs.{needs}
+use Rattle.lpc.specs.Sums.{fixedStep}
+use Rattle.lpc.proofs.SumLaws.{Summing, sum-start, sum-turn, sum-end}
 use Rattle.lpc_fixed.proofs.sum.Statement.{statement}
 use Rattle.lpc_fixed.proofs.sum.Tie as tie
-use Rattle.lpc_fixed.proofs.sum.Reads as reads
-use Rattle.lpc_fixed.proofs.sum.Lts as lts
-use Rattle.base.proofs.words.wrapping_mul.Reads as wrapping-mul-reads
-use Rattle.lpc.proofs.place_before.Reads as place-before-reads
-use Rattle.std.proofs.num.wrapping_add_u32.Reads as wrapping-add-u32-reads
 
 abbrev Inv-loop : tie.InvT-loop
-Inv-loop start values history order place acc₀ at₀ k₀ acc at k = ?
+Inv-loop start values history order place acc₀ at₀ k₀ acc at k = Summing fixedStep 0 start values history order place acc at k
 
 abbrev μ-loop : tie.MeasureT-loop
-μ-loop start values history order place acc₀ at₀ k₀ acc at k = ?
+μ-loop start values history order place acc₀ at₀ k₀ acc at k = order - k
 
--- src/lib.rt:32:9
 place-before-requires : tie.Need-place-before-requires Inv-loop μ-loop
-place-before-requires c κs = ?
+place-before-requires c κs = search needs
 
--- src/lib.rt:34:5
 loop-holds : tie.Need-loop-holds Inv-loop μ-loop
-loop-holds c = ?
+loop-holds c = sum-start _ _ _ _ _ _ _ _ (c .place-before .ensures .0) (c .place-before .ensures .1)
 
--- src/lib.rt:35:49
 mul-wrapping-mul : tie.Need-mul-wrapping-mul Inv-loop μ-loop
-mul-wrapping-mul c = ?
+mul-wrapping-mul c = search needs
 
--- src/lib.rt:35:49
 element-copy-out-wrapping-mul : tie.Need-element-copy-out-wrapping-mul Inv-loop μ-loop
-element-copy-out-wrapping-mul c = ?
+element-copy-out-wrapping-mul c = search needs
 
--- src/lib.rt:35:60
 mul-wrapping-mul-2 : tie.Need-mul-wrapping-mul-2 Inv-loop μ-loop
-mul-wrapping-mul-2 c = ?
+mul-wrapping-mul-2 c = search needs
 
--- src/lib.rt:35:60
 element-copy-out-wrapping-mul-2 : tie.Need-element-copy-out-wrapping-mul-2 Inv-loop μ-loop
-element-copy-out-wrapping-mul-2 c = ?
+element-copy-out-wrapping-mul-2 c = search needs
 
--- src/lib.rt:35:13
 wrapping-mul-requires : tie.Need-wrapping-mul-requires Inv-loop μ-loop
-wrapping-mul-requires c κs = ?
+wrapping-mul-requires c κs = search needs
 
--- src/lib.rt:36:9
 wrapping-add-u32-requires : tie.Need-wrapping-add-u32-requires Inv-loop μ-loop
-wrapping-add-u32-requires c κs = ?
+wrapping-add-u32-requires c κs = search needs
 
--- src/lib.rt:37:9
 place-before-requires-2 : tie.Need-place-before-requires-2 Inv-loop μ-loop
-place-before-requires-2 c κs = ?
+place-before-requires-2 c κs = search needs
 
--- src/lib.rt:38:9
 add-k : tie.Need-add-k Inv-loop μ-loop
-add-k c = ?
+add-k c = search needs
 
--- src/lib.rt:34:5
 loop-less : tie.Need-loop-less Inv-loop μ-loop
-loop-less c = ?
+loop-less c = search needs
 
--- src/lib.rt:34:5
 loop-again : tie.Need-loop-again Inv-loop μ-loop
-loop-again c = ?
+loop-again c =
+    let u = c .before .before .before .before .before in
+    let l = u .before .loop in
+    sum-turn _ _ _ _ _ _ _ (l .acc) (l .at) (l .k) (l .inv) (u .loop-test .taken) _ _
+    (c .before .wrapping-add-u32 .ensures ∙ rw (c .before .before .wrapping-mul .ensures))
+    (c .place-before2 .ensures .0)
+    (c .place-before2 .ensures .1)
 
--- src/lib.rt:27:1
 returns : tie.Need-returns Inv-loop μ-loop
-returns c = ?
+returns c = sum-end _ _ _ _ _ _ _ (c .before .loop .acc) (c .before .loop .at) (c .before .loop .k) (c .before .loop .inv) (c .loop-test .left)
 
 pub sum-spec : {M : Type 1} → statement M
 sum-spec =
