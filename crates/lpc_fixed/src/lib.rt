@@ -1,12 +1,15 @@
 // The fixed filter: words of 32 bits in two's complement.
 ghost use mathlib.Core.Path.{_≡_};
-ghost use Prim.Native.Nat.{_≤_};
-ghost use lib.ListN.{getD};
-ghost use Rattle.base.specs.Buffers.{upto};
+ghost use Prim.Native.Nat.{_/_, _≤_};
+ghost use lib.IntN.{pos, _*ℤ_};
+ghost use lib.ListN.{length, getD, replicate};
+ghost use Rattle.base.specs.Buffers.{over, upto};
 ghost use Rattle.base.specs.Words.{low};
-ghost use Rattle.lpc.specs.Fixed.{rowValue};
+ghost use Rattle.ulaw.specs.Ulaw.{sampleOf};
+ghost use Rattle.lpc.specs.Fixed.{scaledBy, rowValue, divided};
 ghost use Rattle.lpc.specs.Ring.{tap};
 ghost use Rattle.lpc.specs.Sums.{summed, fixedStep};
+ghost use Rattle.lpc_fixed.specs.Values.{valueAt};
 
 // The word of an i64.
 fn i64_to_word(x: i64) -> u64
@@ -39,4 +42,46 @@ fn sum(start: u32, values: &[u32; 32], history: &[u32; 33], order: usize, place:
         k += 1;
     }
     acc
+}
+
+// coeff_min, scaled.
+fn min_q(coeff_min: f32) -> i32
+    ensures { λ r. ⌜ r ≡ scaledBy 32768 «coeff_min» ⌝ }
+{
+    float::f32_to_i32(coeff_min * 32768.0)
+}
+
+// coeff_range, scaled.
+fn range_q(coeff_range: f32) -> i32
+    ensures { λ r. ⌜ r ≡ scaledBy 2048 «coeff_range» ⌝ }
+{
+    float::f32_to_i32(coeff_range * 2048.0)
+}
+
+// The values of a row, as words; zeros after them.
+fn row_values(min_q: i32, range_q: i32, row: &[u8]) -> [u32; 32]
+    requires { ⌜ length (now row) ≤ 64 ⌝ }
+    ensures { λ r. ⌜ r ≡ over (upto (valueAt «min_q» «range_q» (now (row .entry))) (length (now (row .entry)) / 2)) (replicate 32 0) ⌝ }
+{
+    let mut values = [0u32; 32];
+    let mut k = 0usize;
+    while k < row.len() / 2 {
+        let q = base::bytes::u16_at(row, k);
+        values[k] = row_value(min_q, range_q, q);
+        k += 1;
+    }
+    values
+}
+
+// Q14: the fixed filter's scale.
+const LPC_SCALE: u32 = 16384;
+
+// The output for a byte of the excitation.
+fn next(values: &[u32; 32], history: &[u32; 33], order: usize, place: usize, byte: u8) -> u32
+    requires { ⌜ (order ≤ 32) × (place ≤ order) ⌝ }
+    ensures { λ r. ⌜ r ≡ divided (summed fixedStep (low 32 (sampleOf byte *ℤ pos 16384)) (upto (λ k. getD (now (values .entry)) k 0) order) (λ k. getD (now (history .entry)) (tap order place k) 0) 0) ⌝ }
+{
+    let sample = base::words::i32_to_word(ulaw::ulaw_to_i16(byte) as i32);
+    let start = base::words::wrapping_mul(sample, LPC_SCALE);
+    base::words::divide_by_16384(sum(start, values, history, order, place))
 }

@@ -2,7 +2,7 @@ use mathlib.Core.Path.{ap, _∙_}
 use Prim.Native.Nat.{ℕ, _%_, _^_}
 use native.Mathlib.Omega.{arith}
 use borrow.Author.Needs.{needs}
-use lib.IntN.{ℤ}
+use mir.Syntax.{w32, w64}
 use Rattle.base.specs.Words.{low}
 use Rattle.lpc_fixed.proofs.ValueLaws.{cast-fits, product-fits, shrunk-fits, sum-fits, value-fits, value-is, low-low}
 use Rattle.lpc_fixed.proofs.row_value.Statement.{statement}
@@ -12,7 +12,7 @@ cast-half : tie.Need-cast-half
 cast-half c = search needs
 
 cast-value : tie.Need-cast-value
-cast-value c = cast-fits (c .args .range-q) (c .fits .range-q)
+cast-value c = cast-fits w32 w64 tt (c .args .range-q) (c .fits .range-q)
 
 mul-value : tie.Need-mul-value
 mul-value c = product-fits _ _ _ (c .fits .q) (c .fits .min-q) (c .fits .range-q)
@@ -21,7 +21,7 @@ div-value : tie.Need-div-value
 div-value c = (omega arith, shrunk-fits _ _ _ (c .fits .q) (c .fits .min-q) (c .fits .range-q))
 
 cast-value-2 : tie.Need-cast-value-2
-cast-value-2 c = cast-fits (c .args .min-q) (c .fits .min-q)
+cast-value-2 c = cast-fits w32 w64 tt (c .args .min-q) (c .fits .min-q)
 
 add-value : tie.Need-add-value
 add-value c = sum-fits _ _ _ (c .fits .q) (c .fits .min-q) (c .fits .range-q)
