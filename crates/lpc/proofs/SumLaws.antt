@@ -1,16 +1,17 @@
--- A loop over a row: what is still to be added, one turn, and the end; and the filters' sums as such loops make them.
-use mathlib.Core.Path.{_≡_, refl, ap, _∙_}
-use mathlib.Core.List.{List, [], _∷_, map}
-use Prim.Native.Nat.{ℕ, suc, _+_, _≤_, _<_}
+-- A loop over a row: what is still to be added, one turn, and the end; a row's values in an array; and the filters' sums as such loops make them.
+use mathlib.Core.Path.{_≡_, refl, sym, ap, _∙_}
+use mathlib.Core.List.{List, [], _∷_, _++_, map, map-append}
+use Prim.Native.Nat.{ℕ, zero, suc, _+_, _*_, _/_, _≤_, _<_}
 use native.Mathlib.Numerals.{add-one}
 use native.Mathlib.Omega.{arith}
 use lib.IntN.{ℤ}
-use lib.ListN.{length, getD, drop, drop-of-length-le}
+use lib.ListN.{length, getD, drop, drop-of-length-le, List·getD-append}
 use lib.Seq.{drop-cons}
 use lib.Ieee.{Float}
-use Rattle.base.specs.Buffers.{upto}
+use Rattle.base.specs.Buffers.{over, upto}
+use Rattle.base.specs.Bytes.{u16At, elements}
 use Rattle.base.specs.Words.{low}
-use Rattle.base.proofs.BufferLaws.{length-upto, getD-upto}
+use Rattle.base.proofs.BufferLaws.{length-upto, getD-upto, upto-same}
 use Rattle.lpc.specs.Fixed.{fixedSum}
 use Rattle.lpc.specs.Floating.{floatSum}
 use Rattle.lpc.specs.Ring.{placeBefore, tap}
@@ -63,6 +64,27 @@ module _ {A : Type 0} (step : A → A → A → A) (d start : A) (values history
     sum-end l =
         let m : length row ≤ k = rw length-upto l in
         rw (drop-of-length-le row m) at (h .rest)
+
+-- ---- a row's values, read once for a period
+
+map-upto : {A : Type 0} (g : ℕ → A) (f : ℕ → ℕ) (n : ℕ) → map g (upto f n) ≡ upto (λ i. g (f i)) n
+unfolding upto
+map-upto g f zero = refl
+map-upto g f (suc n) = map-append g (upto f n) (f n ∷ []) ∙ ap (λ (l : List _). l ++ (g (f n) ∷ [])) (map-upto g f n)
+
+-- an array whose front has them, before z
+pub row-read : {A : Type 0} (g : ℕ → A) (row : List ℕ) (order : ℕ) (values z : List A) (d : A) → length row ≡ 2 * order → values ≡ over (upto (λ k. g (u16At row k)) (length row / 2)) z → upto (λ k. getD values k d) order ≡ map g (elements 2 row)
+unfolding over elements
+row-read {A} g row order values z d l e =
+    let n : length row / 2 ≡ order = omega arith in
+    let at : (k : ℕ) → k < order → getD values k d ≡ g (u16At row k) = λ k h. rw (e, n) (front k h) in
+    rw n (upto-same (λ k. getD values k d) (λ k. g (u16At row k)) order at ∙ sym (map-upto g (u16At row) order))
+  where
+    p : List A
+    p = upto (λ k. g (u16At row k)) order
+
+    front : (k : ℕ) → k < order → getD (p ++ drop (length p) z) k d ≡ g (u16At row k)
+    front k h = List·getD-append p (drop (length p) z) d k (rw length-upto h) ∙ getD-upto (λ k. g (u16At row k)) order k d h
 
 -- ---- the filters' sums
 

@@ -5,3 +5,4 @@ pub mod Floating
 pub mod Ring
 pub mod Sums
 pub mod State
+pub mod Ready

@@ -1,13 +1,18 @@
 // The fixed filter: words of 32 bits in two's complement.
+use lpc::FilterState;
+use lpc::ResynthType;
 ghost use mathlib.Core.Path.{_≡_};
 ghost use Prim.Native.Nat.{_/_, _≤_};
 ghost use lib.IntN.{pos, _*ℤ_};
 ghost use lib.ListN.{length, getD, replicate};
-ghost use Rattle.base.specs.Buffers.{over, upto};
+ghost use Rattle.base.specs.Buffers.{over, flat, upto};
+ghost use Rattle.base.specs.Bytes.{bytesOf};
 ghost use Rattle.base.specs.Words.{low};
 ghost use Rattle.ulaw.specs.Ulaw.{sampleOf};
 ghost use Rattle.lpc.specs.Fixed.{scaledBy, rowValue, divided};
+ghost use Rattle.lpc.specs.Ready.{Ready, partOf};
 ghost use Rattle.lpc.specs.Ring.{tap};
+ghost use Rattle.lpc.specs.State.{advanced, spoken};
 ghost use Rattle.lpc.specs.Sums.{summed, fixedStep};
 ghost use Rattle.lpc_fixed.specs.Values.{valueAt};
 
@@ -84,4 +89,35 @@ fn next(values: &[u32; 32], history: &[u32; 33], order: usize, place: usize, byt
     let sample = base::words::i32_to_word(ulaw::ulaw_to_i16(byte) as i32);
     let start = base::words::wrapping_mul(sample, LPC_SCALE);
     base::words::divide_by_16384(sum(start, values, history, order, place))
+}
+
+// The next period by the fixed filter: its samples go to the front of `samples`.
+pub fn resynthesise_period(
+    state: FilterState,
+    row: &[u8],
+    excitation: &[u8],
+    samples: &mut [u8],
+) -> FilterState
+    requires { ⌜ Ready state (now row) (now excitation) (now samples) × (state .filter ≡ ResynthType.Fixed) ⌝ }
+    ensures { λ r. ⌜ r ≡ advanced state (partOf (now (row .entry)) (now (excitation .entry))) ⌝ }
+    ensures { λ r. ⌜ now (samples .exit) ≡ over (flat (bytesOf 2) (spoken state (partOf (now (row .entry)) (now (excitation .entry))))) (now (samples .entry)) ⌝ }
+{
+    let order = state.order;
+    let values = row_values(min_q(state.coeff_min), range_q(state.coeff_range), row);
+    let mut history = state.fixed;
+    let mut place = state.ring_place;
+    let mut i = 0usize;
+    while i < excitation.len() {
+        let y = next(&values, &history, order, place, excitation[i]);
+        base::bytes::put_u16(samples, i, base::words::low16(y));
+        history[place] = y;
+        place = lpc::place_after(order, place);
+        i += 1;
+    }
+    let mut after = state;
+    after.ring_place = place;
+    after.period = state.period + 1;
+    after.sample_place = state.sample_place + excitation.len();
+    after.fixed = history;
+    after
 }
