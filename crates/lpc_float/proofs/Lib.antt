@@ -1,0 +1,2 @@
+-- Laws about the float filter.
+pub mod NextLaws
