@@ -2,6 +2,7 @@
 ghost use mathlib.Core.Path.{_≡_};
 ghost use Prim.Native.Nat.{_≤_};
 ghost use Rattle.lpc.specs.Ring.{placeBefore, placeAfter};
+ghost use Rattle.lpc.specs.State.{freshState};
 
 // Which arithmetic the filter uses.
 pub enum ResynthType {
@@ -22,6 +23,25 @@ pub struct FilterState {
     pub coeff_range: f32,
     pub fixed: [u32; 33],
     pub float: [f32; 33],
+}
+
+impl FilterState {
+    // The state before the first period.
+    pub fn fresh(filter: ResynthType, order: usize, coeff_min: f32, coeff_range: f32) -> FilterState
+        ensures { λ r. ⌜ r ≡ freshState filter order «coeff_min» «coeff_range» ⌝ }
+    {
+        FilterState {
+            filter: filter,
+            order: order,
+            ring_place: order,
+            period: 0,
+            sample_place: 0,
+            coeff_min: coeff_min,
+            coeff_range: coeff_range,
+            fixed: [0; 33],
+            float: [0.0; 33],
+        }
+    }
 }
 
 // The ring's place before `at`.
