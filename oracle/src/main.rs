@@ -11,6 +11,8 @@ mod call;
 mod codecs;
 mod examples;
 #[cfg(feature = "probe")]
+mod filters;
+#[cfg(feature = "probe")]
 mod float_inputs;
 #[cfg(feature = "probe")]
 mod floats;
@@ -33,7 +35,8 @@ const USAGE: &str = "usage:
   oracle self [--seed N] [--count N]
   oracle statements [--seed N] [--from N] [--count N] --out FILE
   oracle floats [--seed N] [--count N] [--all]
-  oracle codecs [--seed N] [--count N]";
+  oracle codecs [--seed N] [--count N]
+  oracle filters [--seed N] [--count N]";
 
 fn main() -> ExitCode {
     let words: Vec<String> = std::env::args().skip(1).collect();
@@ -51,8 +54,10 @@ fn main() -> ExitCode {
         "floats" => floats::run(&args),
         #[cfg(feature = "probe")]
         "codecs" => codecs::run(&args),
+        #[cfg(feature = "probe")]
+        "filters" => filters::run(&args),
         #[cfg(not(feature = "probe"))]
-        "floats" | "codecs" => return usage("built without the feature probe"),
+        "floats" | "codecs" | "filters" => return usage("built without the feature probe"),
         other => return usage(&format!("unknown command {other}")),
     };
     match agreed {
