@@ -3,10 +3,11 @@ use lpc::FilterState;
 use lpc::ResynthType;
 ghost use mathlib.Core.Path.{_≡_};
 ghost use Prim.Native.Nat.{_/_, _≤_};
-ghost use lib.Ieee.{nan, binary32, ofInt};
+ghost use lib.Ieee.{nan, binary32, ofInt, toSigned};
 ghost use lib.ListN.{length, getD, replicate};
 ghost use Rattle.base.specs.Buffers.{over, flat, upto};
 ghost use Rattle.base.specs.Bytes.{bytesOf, u16At};
+ghost use Rattle.base.specs.Words.{low};
 ghost use Rattle.ulaw.specs.Ulaw.{sampleOf};
 ghost use Rattle.lpc.specs.Floating.{floatValue};
 ghost use Rattle.lpc.specs.Ready.{Ready, partOf};
@@ -69,6 +70,21 @@ fn next(values: &[f32; 32], history: &[f32; 33], order: usize, place: usize, byt
     )
 }
 
+// The sample of an output, as a word. The magnitude is cut first: the sign then costs no branch.
+fn sample(y: f32) -> u16
+    ensures { λ r. ⌜ r ≡ low 16 (toSigned 15 y) ⌝ }
+{
+    let magnitude = float::f32_abs(y);
+    if magnitude < 32768.0 {
+        let whole = std::num::truncating_f32_to_u64(magnitude) as u32;
+        if y < 0.0 {
+            return base::words::low16(65536 - whole);
+        }
+        return base::words::low16(whole);
+    }
+    base::words::i16_to_word(float::f32_to_i16(y))
+}
+
 // The next period by the float filter: its samples go to the front of `samples`.
 pub fn resynthesise_period(
     state: FilterState,
@@ -87,7 +103,7 @@ pub fn resynthesise_period(
     let mut i = 0usize;
     while i < excitation.len() {
         let y = next(&values, &history, order, place, excitation[i]);
-        base::bytes::put_u16(samples, i, base::words::i16_to_word(float::f32_to_i16(y)));
+        base::bytes::put_u16(samples, i, sample(y));
         history[place] = y;
         place = lpc::place_after(order, place);
         i += 1;

@@ -1,12 +1,10 @@
-use mathlib.Core.Path.{_≡_, sym, ap, _∙_}
+use mathlib.Core.Path.{_≡_, sym, _∙_}
 use mathlib.Core.List.{List}
 use Prim.Native.Nat.{ℕ, _-_, _<_}
 use native.Mathlib.Omega.{arith}
 use lib.Ieee.{Float}
 use lib.ListN.{length, length-map, length-set}
-use mir.Facts.{toZ-ofZ}
 use Rattle.base.specs.Bytes.{elements}
-use Rattle.base.specs.Words.{low}
 use Rattle.lpc.specs.Ring.{Ring}
 use Rattle.lpc.proofs.RunLaws.{Run, run-start, run-turn, run-end}
 use Rattle.lpc.proofs.StateLaws.{floatOf, float-given}
@@ -38,11 +36,8 @@ shared-slice-read-next c = search needs
 next-requires : tie.Need-next-requires Inv-loop μ-loop
 next-requires c κs = search needs
 
-f32-to-i16-requires : tie.Need-f32-to-i16-requires Inv-loop μ-loop
-f32-to-i16-requires c κs = search needs
-
-i16-to-word-requires : tie.Need-i16-to-word-requires Inv-loop μ-loop
-i16-to-word-requires c κs = search needs
+sample-requires : tie.Need-sample-requires Inv-loop μ-loop
+sample-requires c κs = search needs
 
 put-u16-requires : tie.Need-put-u16-requires Inv-loop μ-loop
 put-u16-requires c κs = search needs
@@ -65,15 +60,13 @@ loop-less c = search needs
 loop-again : tie.Need-loop-again Inv-loop μ-loop
 loop-again c =
     let p = c .before .before .before in
-    let n = p .before .before .before .before in
+    let n = p .before .before .before in
     let u = n .before .before .before .before in
     let l = u .before .loop in
     let v = u .before .before .before in
     let a = v .before .before .before .before in
     let long : a .args .state .order < length (l .history) = omega (arith, a .pre .0 .orderLow, l .inv .0) in
-    let w = p .before in
-    let f = w .before .f32-to-i16 in
-    let word : w .i16-to-word .result ≡ floatOf (a .args .state) .out (n .next .result) = w .i16-to-word .ensures ∙ ap (low 16) (toZ-ofZ (record { sfits = f .ok }) ∙ f .ensures) ∙ sym (out-is _ _ _) in (
+    let word : p .before .sample .result ≡ floatOf (a .args .state) .out (n .next .result) = p .before .sample .ensures ∙ sym (out-is _ _ _) in (
       simp length-set (l .inv .0),
       run-turn _ _ _ _ _ _ _ (l .samples) (l .i) (l .inv .1) (u .loop-test .taken) (n .next .result) _ _
           (n .next .ensures ∙ next-is _ _ _ _ _ _ (a .pre .0 .whole) (v .row-values .ensures) (ring (l .history) (l .place)) _ (l .inv .1 .low) long)
@@ -106,8 +99,7 @@ resynthesise-period-spec =
     loop-holds
     shared-slice-read-next
     next-requires
-    f32-to-i16-requires
-    i16-to-word-requires
+    sample-requires
     put-u16-requires
     mul-history
     array-write-history
