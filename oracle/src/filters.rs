@@ -232,9 +232,9 @@ fn time(seed: u64, float: bool, length: usize) {
     let periods = Periods::timed(seed, length);
     let rows = periods.rows();
     let mut samples = vec![0; 4 * length];
-    let turns = 400_000 / length;
+    let turns = 40_000 / length;
     let mut best = [Duration::MAX; 2];
-    for _ in 0..30 {
+    for _ in 0..300 {
         let start = Instant::now();
         for _ in 0..turns {
             black_box(&periods).rust(float, &mut |period| {

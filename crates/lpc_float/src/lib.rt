@@ -77,10 +77,8 @@ fn sample(y: f32) -> u16
     let magnitude = float::f32_abs(y);
     if magnitude < 32768.0 {
         let whole = std::num::truncating_f32_to_u64(magnitude) as u32;
-        if y < 0.0 {
-            return base::words::low16(65536 - whole);
-        }
-        return base::words::low16(whole);
+        let negative = (y < 0.0) as u32;
+        return base::words::low16(whole + negative * (65536 - 2 * whole));
     }
     base::words::i16_to_word(float::f32_to_i16(y))
 }
