@@ -81,8 +81,7 @@ impl Periods {
     }
 
     /// Two periods of one length, with outputs that stay small.
-    fn timed(seed: u64, length: usize) -> Periods {
-        let mut rng = Rng::new(seed);
+    fn timed(rng: &mut Rng, length: usize) -> Periods {
         Periods {
             order: TIMED,
             coeff_min: -0.06,
@@ -227,30 +226,34 @@ impl Tally {
     }
 }
 
-/// The best of some rounds, the two sides in turn.
+/// The best of some rounds over different periods, the two sides in turn.
 fn time(seed: u64, float: bool, length: usize) {
-    let periods = Periods::timed(seed, length);
-    let rows = periods.rows();
+    let cases: Vec<(Periods, Vec<u8>)> = (0..40_000 / length)
+        .map(|case| {
+            let periods = Periods::timed(&mut Rng::for_case(seed, case as u64), length);
+            let rows = periods.rows();
+            (periods, rows)
+        })
+        .collect();
     let mut samples = vec![0; 4 * length];
-    let turns = 40_000 / length;
     let mut best = [Duration::MAX; 2];
     for _ in 0..300 {
         let start = Instant::now();
-        for _ in 0..turns {
-            black_box(&periods).rust(float, &mut |period| {
+        for (periods, _) in &cases {
+            periods.rust(float, &mut |period| {
                 black_box(period);
                 Flow::Continue
             });
         }
         best[0] = best[0].min(start.elapsed());
         let start = Instant::now();
-        for _ in 0..turns {
-            black_box(&periods).archive(float, &rows, &mut samples);
+        for (periods, rows) in &cases {
+            periods.archive(float, rows, &mut samples);
             black_box(&samples);
         }
         best[1] = best[1].min(start.elapsed());
     }
-    let each = |time: Duration| time.as_nanos() as f64 / (2 * length * turns) as f64;
+    let each = |time: Duration| time.as_nanos() as f64 / (2 * length * cases.len()) as f64;
     println!(
         "  filters: {}, order {TIMED}, periods of {length} samples: {:.2} ns a sample in the Rust, {:.2} ns in the archive",
         name(float),
