@@ -76,6 +76,12 @@ getD-default [] i d e h = absurd (omega arith)
 getD-default (x ∷ l) zero d e h = refl
 getD-default (x ∷ l) (suc i) d e h = getD-default l i d e (omega arith)
 
+-- what was written last stands before the place that is written next
+pub newest : {A : Type 0} (order place : ℕ) (h : List A) (y d : A) → place ≤ order → order < length h → getD (set h place y) (placeBefore order (placeAfter order place)) d ≡ y
+newest {A} order place h y d p l =
+    let g : place < length h = omega arith in
+    ap (λ (t : ℕ). getD (set h place y) t d) (before-after order place p) ∙ getD-set-same h place y d g
+
 module _ {A : Type 0} (f : Filter A) (order : ℕ) where
   -- a tap is never past the ring's end
   pub ago-default : (r : Ring A) (d : A) → r .place ≤ order → order < length (r .history) → (k : ℕ) → getD (r .history) (tap order (r .place) k) d ≡ ago f order r k
@@ -91,9 +97,7 @@ module _ {A : Type 0} (f : Filter A) (order : ℕ) where
   holds-pushed r h y p = record { placeLow = after-low order (r .place) (p .placeLow); room = simp length-set (p .room); same = same }
     where
       same : (k : ℕ) → k < order → ago f order (pushed f order r y) k ≡ back f (y ∷ h) k
-      same zero l =
-          let g : r .place < length (r .history) = omega (arith, p .placeLow, p .room) in
-          ap (λ (t : ℕ). getD (set (r .history) (r .place) y) t (f .rest)) (before-after order (r .place) (p .placeLow)) ∙ getD-set-same (r .history) (r .place) y (f .rest) g
+      same zero l = newest order (r .place) (r .history) y (f .rest) (p .placeLow) (p .room)
       same (suc k) l =
           ap (λ (t : ℕ). getD (set (r .history) (r .place) y) t (f .rest)) (tap-after order (r .place) (p .placeLow) k)
           ∙ getD-set-other (r .history) (r .place) (tap order (r .place) k) y (f .rest) (tap-far order (r .place) k (p .placeLow) (omega arith))

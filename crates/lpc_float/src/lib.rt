@@ -11,7 +11,7 @@ ghost use Rattle.base.specs.Words.{low};
 ghost use Rattle.ulaw.specs.Ulaw.{sampleOf};
 ghost use Rattle.lpc.specs.Floating.{floatValue};
 ghost use Rattle.lpc.specs.Ready.{Ready, partOf};
-ghost use Rattle.lpc.specs.Ring.{tap};
+ghost use Rattle.lpc.specs.Ring.{placeBefore, tap};
 ghost use Rattle.lpc.specs.State.{advanced, spoken};
 ghost use Rattle.lpc.specs.Sums.{summed, floatStep};
 ghost use Rattle.lpc_float.specs.Values.{zero32};
@@ -26,13 +26,25 @@ fn row_value(coeff_min: f32, coeff_range: f32, q: u16) -> f32
 }
 
 // The accumulator `start` with the `order` products added: value k times the output k + 1 back.
-fn sum(start: f32, values: &[f32; 32], history: &[f32; 33], order: usize, place: usize) -> f32
-    requires { ⌜ (order ≤ 32) × (place ≤ order) ⌝ }
+// `last` is the newest output, at hand before it can be read back from the ring.
+fn sum(
+    start: f32,
+    last: f32,
+    values: &[f32; 32],
+    history: &[f32; 33],
+    order: usize,
+    place: usize,
+) -> f32
+    requires { ⌜ (order ≤ 32) × (place ≤ order) × (last ≡ getD (now history) (placeBefore order place) nan) ⌝ }
     ensures { λ r. ⌜ r ≡ summed floatStep start (upto (λ k. getD (now (values .entry)) k nan) order) (λ k. getD (now (history .entry)) (tap order place k) nan) 0 ⌝ }
 {
-    let mut acc = start;
-    let mut at = lpc::place_before(order, place);
-    let mut k = 0usize;
+    let newest = lpc::place_before(order, place);
+    if order == 0 {
+        return start;
+    }
+    let mut acc = start + values[0] * last;
+    let mut at = lpc::place_before(order, newest);
+    let mut k = 1usize;
     while k < order {
         acc = acc + values[k] * history[at];
         at = lpc::place_before(order, at);
@@ -57,12 +69,20 @@ fn row_values(coeff_min: f32, coeff_range: f32, row: &[u8]) -> [f32; 32]
 }
 
 // The output for a byte of the excitation.
-fn next(values: &[f32; 32], history: &[f32; 33], order: usize, place: usize, byte: u8) -> f32
-    requires { ⌜ (order ≤ 32) × (place ≤ order) ⌝ }
+fn next(
+    byte: u8,
+    last: f32,
+    values: &[f32; 32],
+    history: &[f32; 33],
+    order: usize,
+    place: usize,
+) -> f32
+    requires { ⌜ (order ≤ 32) × (place ≤ order) × (last ≡ getD (now history) (placeBefore order place) nan) ⌝ }
     ensures { λ r. ⌜ r ≡ summed floatStep (ofInt binary32 (sampleOf byte)) (upto (λ k. getD (now (values .entry)) k nan) order) (λ k. getD (now (history .entry)) (tap order place k) nan) 0 ⌝ }
 {
     sum(
         ulaw::ulaw_to_i16(byte) as f32,
+        last,
         values,
         history,
         order,
@@ -98,11 +118,13 @@ pub fn resynthesise_period(
     let values = row_values(state.coeff_min, state.coeff_range, row);
     let mut history = state.float;
     let mut place = state.ring_place;
+    let mut last = history[lpc::place_before(order, place)];
     let mut i = 0usize;
     while i < excitation.len() {
-        let y = next(&values, &history, order, place, excitation[i]);
+        let y = next(excitation[i], last, &values, &history, order, place);
         base::bytes::put_u16(samples, i, sample(y));
         history[place] = y;
+        last = y;
         place = lpc::place_after(order, place);
         i += 1;
     }

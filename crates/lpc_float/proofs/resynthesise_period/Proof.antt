@@ -2,10 +2,11 @@ use mathlib.Core.Path.{_≡_, sym, _∙_}
 use mathlib.Core.List.{List}
 use Prim.Native.Nat.{ℕ, _-_, _<_}
 use native.Mathlib.Omega.{arith}
-use lib.Ieee.{Float}
-use lib.ListN.{length, length-map, length-set}
+use lib.Ieee.{Float, nan}
+use lib.ListN.{length, getD, length-map, length-set}
 use Rattle.base.specs.Bytes.{elements}
-use Rattle.lpc.specs.Ring.{Ring}
+use Rattle.lpc.specs.Ring.{Ring, placeBefore}
+use Rattle.lpc.proofs.RingLaws.{newest}
 use Rattle.lpc.proofs.RunLaws.{Run, run-start, run-turn, run-end}
 use Rattle.lpc.proofs.StateLaws.{floatOf, float-given}
 use Rattle.lpc_float.proofs.NextLaws.{next-is, out-is}
@@ -17,18 +18,32 @@ abbrev ring : List Float → ℕ → Ring Float
 ring history place = record { history = history; place = place }
 
 abbrev Inv-loop : tie.InvT-loop
-Inv-loop state row excitation samples₀ order values history₀ place₀ i₀ samples history place i = (length history ≡ 33) × Run (floatOf state) order (elements 2 row) excitation (ring history₀ place₀) samples₀ (ring history place) samples i
+Inv-loop state row excitation samples₀ order values history₀ place₀ last₀ i₀ samples history place last i =
+    (length history ≡ 33) × (last ≡ getD history (placeBefore order place) nan) × Run (floatOf state) order (elements 2 row) excitation (ring history₀ place₀) samples₀ (ring history place) samples i
 
 abbrev μ-loop : tie.MeasureT-loop
-μ-loop state row excitation samples₀ order values history₀ place₀ i₀ samples history place i = length excitation - i
+μ-loop state row excitation samples₀ order values history₀ place₀ last₀ i₀ samples history place last i =
+    length excitation - i
 
 row-values-requires : tie.Need-row-values-requires Inv-loop μ-loop
 row-values-requires c κs = search needs
 
+place-before-requires : tie.Need-place-before-requires Inv-loop μ-loop
+place-before-requires c κs = search needs
+
+mul-last : tie.Need-mul-last Inv-loop μ-loop
+mul-last c = search needs
+
+array-read-last : tie.Need-array-read-last Inv-loop μ-loop
+array-read-last c = search needs
+
 loop-holds : tie.Need-loop-holds Inv-loop μ-loop
 loop-holds c =
-    let a = c .before .before .before .before .before in
-    (sym (length-map (a .args .state .float) (λ x. x)) ∙ a .good .0 .1 .1 .1 .1 .1 .1 .1 .1 .1 .1 .0 .1 .0 .1, run-start _ _ _ _ _ _ (search needs))
+    let a = c .before .before .before .before .before .before in (
+      sym (length-map (a .args .state .float) (λ x. x)) ∙ a .good .0 .1 .1 .1 .1 .1 .1 .1 .1 .1 .1 .0 .1 .0 .1,
+      rw (c .place-before .ensures .0),
+      run-start _ _ _ _ _ _ (search needs),
+    )
 
 shared-slice-read-next : tie.Need-shared-slice-read-next Inv-loop μ-loop
 shared-slice-read-next c = search needs
@@ -63,13 +78,14 @@ loop-again c =
     let n = p .before .before .before in
     let u = n .before .before .before .before in
     let l = u .before .loop in
-    let v = u .before .before .before in
+    let v = u .before .before .before .before in
     let a = v .before .before .before .before in
     let long : a .args .state .order < length (l .history) = omega (arith, a .pre .0 .orderLow, l .inv .0) in
     let word : p .before .sample .result ≡ floatOf (a .args .state) .out (n .next .result) = p .before .sample .ensures ∙ sym (out-is _ _ _) in (
       simp length-set (l .inv .0),
-      run-turn _ _ _ _ _ _ _ (l .samples) (l .i) (l .inv .1) (u .loop-test .taken) (n .next .result) _ _
-          (n .next .ensures ∙ next-is _ _ _ _ _ _ (a .pre .0 .whole) (v .row-values .ensures) (ring (l .history) (l .place)) _ (l .inv .1 .low) long)
+      rw (c .place-after .ensures .0) (sym (newest _ (l .place) (l .history) (n .next .result) nan (l .inv .2 .low) long)),
+      run-turn _ _ _ _ _ _ _ (l .samples) (l .i) (l .inv .2) (u .loop-test .taken) (n .next .result) _ _
+          (n .next .ensures ∙ next-is _ _ _ _ _ _ (a .pre .0 .whole) (v .row-values .ensures) (ring (l .history) (l .place)) _ (l .inv .2 .low) long)
           (p .put-u16 .ensures ∙ rw word)
           (c .place-after .ensures .0),
     )
@@ -86,8 +102,8 @@ same-length c = search needs
 returns : tie.Need-returns Inv-loop μ-loop
 returns c =
     let l = c .before .before .before .loop in
-    let a = c .before .before .before .before .before .before .before .before .before in
-    float-given _ _ _ (l .samples) _ (a .pre .1) (run-end _ _ _ _ _ _ _ (l .samples) (l .i) (l .inv .1) (search needs) (a .pre .0 .room))
+    let a = c .before .before .before .before .before .before .before .before .before .before in
+    float-given _ _ _ (l .samples) _ (a .pre .1) (run-end _ _ _ _ _ _ _ (l .samples) (l .i) (l .inv .2) (search needs) (a .pre .0 .room))
 
 pub resynthesise-period-spec : {M : Type 1} → statement M
 resynthesise-period-spec =
@@ -96,6 +112,9 @@ resynthesise-period-spec =
     Inv-loop
     μ-loop
     row-values-requires
+    place-before-requires
+    mul-last
+    array-read-last
     loop-holds
     shared-slice-read-next
     next-requires
