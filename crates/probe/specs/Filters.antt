@@ -4,6 +4,7 @@ use mathlib.Core.Bool.{Bool, false}
 use mathlib.Core.List.{List, _++_}
 use Prim.Native.Nat.{ℕ, _-_, _*_, _/_, _≤_}
 use lib.Dec.{eqb, leb}
+use lib.Ieee.{Float as Float32}
 use lib.ListN.{length, take}
 use Rattle.base.specs.Choice.{pick}
 use Rattle.base.specs.Lists.{part}
@@ -12,7 +13,7 @@ use Rattle.lpc.specs.declared.ResynthType.the-variants.{Fixed, Float}
 use Rattle.lpc.specs.declared.FilterState.{FilterState}
 use Rattle.lpc.specs.Filter.{Part}
 use Rattle.lpc.specs.Ready.{partOf}
-use Rattle.lpc.specs.State.{advanced, spoken}
+use Rattle.lpc.specs.State.{freshState, advanced, spoken}
 
 -- 0 is the fixed filter, any other number the float filter
 abbrev pub filterOf : ℕ → ResynthType
@@ -27,6 +28,9 @@ secondOf order rows e n = partOf (part rows (2 * order) (length rows - 2 * order
 
 unfoldable pub twoSpoken : FilterState → Part → Part → List ℕ
 twoSpoken s p q = spoken s p ++ spoken (advanced s p) q
+
+abbrev pub twoPeriods : ℕ → ℕ → Float32 → Float32 → List ℕ → ℕ → List ℕ → List ℕ
+twoPeriods filter order least range rows n e = twoSpoken (freshState (filterOf filter) order least range) (firstOf order rows e n) (secondOf order rows e n)
 
 -- what is lent fits: a row for each period, and room for every sample
 abbrev pub fits : ℕ → List ℕ → ℕ → List ℕ → List ℕ → Bool

@@ -15,8 +15,7 @@ ghost use Rattle.base.specs.Choice.{pick};
 ghost use Rattle.base.specs.Words.{low, signed32};
 ghost use Rattle.float.specs.Casts.{narrow, clamped};
 ghost use Rattle.float.specs.Distance.{nearer};
-ghost use Rattle.lpc.specs.State.{freshState};
-ghost use Rattle.probe.specs.Filters.{filterOf, firstOf, secondOf, twoSpoken, Lent, fits};
+ghost use Rattle.probe.specs.Filters.{filterOf, twoPeriods, Lent, fits};
 ghost use Rattle.ulaw.specs.Ulaw.{sampleOf, ulawOf};
 
 // Rust's `x as f32`.
@@ -178,7 +177,7 @@ fn two_periods(
     samples: &mut [u8],
 )
     requires { ⌜ Lent order (now rows) first (now excitation) (now samples) ⌝ }
-    ensures { λ _. ⌜ now (samples .exit) ≡ over (flat (bytesOf 2) (twoSpoken (freshState (filterOf filter) order «coeff_min» «coeff_range») (firstOf order (now (rows .entry)) (now (excitation .entry)) first) (secondOf order (now (rows .entry)) (now (excitation .entry)) first))) (now (samples .entry)) ⌝ }
+    ensures { λ _. ⌜ now (samples .exit) ≡ over (flat (bytesOf 2) (twoPeriods filter order «coeff_min» «coeff_range» (now (rows .entry)) first (now (excitation .entry)))) (now (samples .entry)) ⌝ }
 {
     let state = FilterState::fresh(filter_of(filter), order, coeff_min, coeff_range);
     let middle = 2 * order;
@@ -214,7 +213,7 @@ pub extern "C" fn probe_resynthesise(
         ⌜
         now (samples .exit) ≡
         pick (fits order (now (rows .entry)) first (now (excitation .entry)) (now (samples .entry)))
-        (over (flat (bytesOf 2) (twoSpoken (freshState (filterOf filter) order «coeff_min» «coeff_range») (firstOf order (now (rows .entry)) (now (excitation .entry)) first) (secondOf order (now (rows .entry)) (now (excitation .entry)) first))) (now (samples .entry)))
+        (over (flat (bytesOf 2) (twoPeriods filter order «coeff_min» «coeff_range» (now (rows .entry)) first (now (excitation .entry)))) (now (samples .entry)))
         (now (samples .entry))
         ⌝ }
 {
