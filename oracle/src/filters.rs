@@ -114,12 +114,23 @@ impl Periods {
     }
 
     fn rows(&self) -> Vec<u8> {
-        self.quantised.iter().flat_map(|q| q.to_le_bytes()).collect()
+        self.quantised
+            .iter()
+            .flat_map(|q| q.to_le_bytes())
+            .collect()
     }
 
     fn archive(&self, float: bool, rows: &[u8], samples: &mut [u8]) {
         let scales = (self.coeff_min, self.coeff_range);
-        probe::resynthesise(float, self.order, scales, rows, self.first, &self.excitation, samples);
+        probe::resynthesise(
+            float,
+            self.order,
+            scales,
+            rows,
+            self.first,
+            &self.excitation,
+            samples,
+        );
     }
 
     /// The fixed filter's accumulators that leave 32 bits on the way, worked
@@ -153,7 +164,10 @@ impl Periods {
             let row = (i >= self.first) as usize * self.order;
             let mut acc = f32::from(dsp::ulaw_to_i16(byte));
             for (k, q) in self.quantised[row..row + self.order].iter().enumerate() {
-                let back = outputs.len().checked_sub(k + 1).map_or(0.0, |at| outputs[at]);
+                let back = outputs
+                    .len()
+                    .checked_sub(k + 1)
+                    .map_or(0.0, |at| outputs[at]);
                 acc += value(q) * back;
             }
             outputs.push(acc);
