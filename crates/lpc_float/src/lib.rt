@@ -90,15 +90,19 @@ fn next(
     )
 }
 
-// The sample of an output, as a word. The magnitude is cut first: the sign then costs no branch.
+// The sample of an output, as a word. From 1 up to 2^15 in magnitude it is the pattern's digits,
+// shifted, and the sign costs no branch.
 fn sample(y: f32) -> u16
     ensures { λ r. ⌜ r ≡ low 16 (toSigned 15 y) ⌝ }
 {
-    let magnitude = float::f32_abs(y);
-    if magnitude < 32768.0 {
-        let whole = std::num::truncating_f32_to_u64(magnitude) as u32;
-        let negative = (y < 0.0) as u32;
-        return base::words::low16(whole + negative * (65536 - 2 * whole));
+    let pattern = float::f32_to_word(y);
+    let exponent = pattern % 2147483648 / 8388608;
+    if 127 <= exponent {
+        if exponent < 142 {
+            let whole = (8388608 + pattern % 8388608) >> (150 - exponent);
+            let negative = pattern / 2147483648;
+            return base::words::low16(whole + negative * (65536 - 2 * whole));
+        }
     }
     base::words::i16_to_word(float::f32_to_i16(y))
 }

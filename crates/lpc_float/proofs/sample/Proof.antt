@@ -1,43 +1,42 @@
-use mathlib.Core.Path.{_≡_, ap, subst, _∙_}
-use mathlib.Core.Bool.{false}
-use Prim.Native.Nat.{_-_, _*_, _^_, _≤_, _<_}
+use mathlib.Core.Path.{ap, _∙_}
+use Prim.Native.Nat.{ℕ, _+_, _-_, _*_, _/_, _%_, _^_, _≤_, _<_}
 use native.Mathlib.Omega.{arith}
-use lib.Dec.{T}
-use lib.IntN.{pos}
-use lib.Ieee.{Float, binary32, fin, lt, ofBits, toUnsigned}
-use mir.Val.{boolByte}
 use mir.Facts.{toZ-ofZ}
 use Rattle.base.specs.Words.{low}
-use Rattle.float.specs.Distance.{abs}
 use Rattle.float.proofs.Tests.{yes}
-use Rattle.lpc_float.proofs.SampleLaws.{in-range, whole-low, sign-low, sample-word}
+use Rattle.lpc_float.proofs.SampleLaws.{sign-low, cut-low, sample-word}
 use borrow.Author.Needs.{needs}
 use Rattle.lpc_float.proofs.sample.Statement.{statement}
 use Rattle.lpc_float.proofs.sample.Tie as tie
 
-f32-abs-requires : tie.Need-f32-abs-requires
-f32-abs-requires c κs = search needs
+f32-to-word-requires : tie.Need-f32-to-word-requires
+f32-to-word-requires c κs = search needs
 
--- the magnitude is small
-small : (c : tie.Then1) → T (lt (abs (c .before .before .args .y)) (fin false 1 (pos 15)))
-unfolding ofBits
-small c = subst (λ (x : Float). T (lt x (fin false 1 (pos 15)))) (c .before .f32-abs .ensures) (yes (c .if1 .taken))
+add-whole : tie.Need-add-whole
+add-whole c = search needs
 
-truncating-f32-to-u64-requires : tie.Need-truncating-f32-to-u64-requires
-truncating-f32-to-u64-requires c κs = rw (c .before .f32-abs .ensures) (in-range (c .before .before .args .y) (small c))
+sub-whole : tie.Need-sub-whole
+sub-whole c = search needs
 
--- the whole part, and its bound
-whole : (c : tie.After-truncating-f32-to-u64) → c .truncating-f32-to-u64 .result ≡ toUnsigned 64 (abs (c .before .before .before .args .y))
-whole c = c .truncating-f32-to-u64 .ensures ∙ ap (toUnsigned 64) (c .before .before .f32-abs .ensures)
+shr-whole : tie.Need-shr-whole
+shr-whole c = search needs
 
-low-whole : (c : tie.After-truncating-f32-to-u64) → c .truncating-f32-to-u64 .result < 2 ^ 15
-low-whole c = rw (whole c) (whole-low (c .before .before .before .args .y) (small (c .before)))
+abbrev pattern : tie.Then2 → ℕ
+pattern c = c .before .before .f32-to-word .result
 
-cast-whole : tie.Need-cast-whole
-cast-whole c = omega (arith, low-whole c)
+pattern-low : (c : tie.Then2) → pattern c < 2 ^ 32
+pattern-low c = c .before .before .f32-to-word .ok
 
-cast-negative : tie.Need-cast-negative
-cast-negative c = search needs
+abbrev whole : tie.Then2 → ℕ
+whole c = (2 ^ 23 + pattern c % 2 ^ 23) / 2 ^ (150 - pattern c % 2 ^ 31 / 2 ^ 23)
+
+low-whole : (c : tie.Then2) → whole c < 2 ^ 15
+low-whole c =
+    let w = c .before .before in
+    cut-low (w .before .args .y) (yes (w .before .good .0 .1)) (pattern c) (w .f32-to-word .ensures) (pattern-low c) (c .before .if1 .taken) (c .if2 .taken)
+
+low-sign : (c : tie.Then2) → pattern c / 2 ^ 31 * (65536 - 2 * whole c) ≤ 65536 - 2 * whole c
+low-sign c = sign-low (pattern c) (65536 - 2 * whole c) (pattern-low c)
 
 mul-low16 : tie.Need-mul-low16
 mul-low16 c = omega (arith, low-whole c)
@@ -45,24 +44,20 @@ mul-low16 c = omega (arith, low-whole c)
 sub-low16 : tie.Need-sub-low16
 sub-low16 c = omega (arith, low-whole c)
 
--- the sign's part of the sum
-sign : (c : tie.After-truncating-f32-to-u64) → boolByte (lt (c .before .before .before .args .y) (ofBits binary32 0)) * (65536 - 2 * c .truncating-f32-to-u64 .result) ≤ 65536 - 2 * c .truncating-f32-to-u64 .result
-sign c = sign-low (lt (c .before .before .before .args .y) (ofBits binary32 0)) _
-
 mul-low16-2 : tie.Need-mul-low16-2
-mul-low16-2 c = omega (arith, low-whole c, sign c)
+mul-low16-2 c = omega (arith, low-whole c, low-sign c)
 
 add-low16 : tie.Need-add-low16
-add-low16 c = omega (arith, low-whole c, sign c)
+add-low16 c = omega (arith, low-whole c, low-sign c)
 
 low16-requires : tie.Need-low16-requires
 low16-requires c κs = search needs
 
 returns : tie.Need-returns
-unfolding ofBits
 returns c =
-    let w = c .before in
-    c .low16 .ensures ∙ sample-word (w .before .before .before .args .y) (w .truncating-f32-to-u64 .result) (small (w .before)) (whole w)
+    let t = c .before in
+    let w = t .before .before in
+    c .low16 .ensures ∙ sample-word (w .before .args .y) (yes (w .before .good .0 .1)) (pattern t) (w .f32-to-word .ensures) (pattern-low t) (t .before .if1 .taken) (t .if2 .taken)
 
 f32-to-i16-requires : tie.Need-f32-to-i16-requires
 f32-to-i16-requires c κs = search needs
@@ -77,10 +72,10 @@ pub sample-spec : {M : Type 1} → statement M
 sample-spec =
     tie.close
     (tie.spec
-    f32-abs-requires
-    truncating-f32-to-u64-requires
-    cast-whole
-    cast-negative
+    f32-to-word-requires
+    add-whole
+    sub-whole
+    shr-whole
     mul-low16
     sub-low16
     mul-low16-2
