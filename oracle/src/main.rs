@@ -13,6 +13,8 @@ mod codecs;
 mod diphone_c;
 mod examples;
 #[cfg(feature = "probe")]
+mod filters;
+#[cfg(feature = "probe")]
 mod float_inputs;
 #[cfg(feature = "probe")]
 mod floats;
@@ -48,6 +50,7 @@ const USAGE: &str = "usage:
   oracle statements [--seed N] [--from N] [--count N] --out FILE
   oracle floats [--seed N] [--count N] [--all]
   oracle codecs [--seed N] [--count N]
+  oracle filters [--seed N] [--count N]
   oracle openings [--seed N] [--from N] [--count N]
   oracle marks [--seed N] [--from N] [--count N]";
 
@@ -67,8 +70,10 @@ fn main() -> ExitCode {
         "floats" => floats::run(&args),
         #[cfg(feature = "probe")]
         "codecs" => codecs::run(&args),
+        #[cfg(feature = "probe")]
+        "filters" => filters::run(&args),
         #[cfg(not(feature = "probe"))]
-        "floats" | "codecs" => return usage("built without the feature probe"),
+        "floats" | "codecs" | "filters" => return usage("built without the feature probe"),
         #[cfg(all(feature = "diphone_c", feature = "probe_voice"))]
         "openings" => openings::run(&args),
         #[cfg(not(all(feature = "diphone_c", feature = "probe_voice")))]

@@ -19,10 +19,52 @@ unsafe extern "C" {
     pub safe fn probe_ulaw_to_i16(byte: u8) -> i16;
     pub safe fn probe_i16_to_ulaw(sample: i16) -> u8;
     fn probe_decode_adpcm(packed: *const u8, packed_len: usize, out: *mut u8, out_len: usize);
+    fn probe_resynthesise(
+        filter: u32,
+        order: usize,
+        coeff_min: f32,
+        coeff_range: f32,
+        rows: *const u8,
+        rows_len: usize,
+        first: usize,
+        excitation: *const u8,
+        excitation_len: usize,
+        samples: *mut u8,
+        samples_len: usize,
+    );
 }
 
 /// A slice reaches C as a pointer and a count.
 pub fn decode_adpcm(packed: &[u8], out: &mut [u8]) {
     // SAFETY: both are slices of their lengths, and they do not overlap.
     unsafe { probe_decode_adpcm(packed.as_ptr(), packed.len(), out.as_mut_ptr(), out.len()) }
+}
+
+/// Two periods from a fresh state: `scales` are coeff_min and coeff_range, and
+/// the first period has `first` bytes of the excitation.
+pub fn resynthesise(
+    float: bool,
+    order: usize,
+    scales: (f32, f32),
+    rows: &[u8],
+    first: usize,
+    excitation: &[u8],
+    samples: &mut [u8],
+) {
+    // SAFETY: all three are slices of their lengths, and they do not overlap.
+    unsafe {
+        probe_resynthesise(
+            float as u32,
+            order,
+            scales.0,
+            scales.1,
+            rows.as_ptr(),
+            rows.len(),
+            first,
+            excitation.as_ptr(),
+            excitation.len(),
+            samples.as_mut_ptr(),
+            samples.len(),
+        )
+    }
 }

@@ -3,9 +3,10 @@ use mathlib.Core.Path.{_≡_, refl, sym, ap, _∙_, subst}
 use mathlib.Core.Logic.{inl, inr}
 use mathlib.Core.Bool.{Bool, true, false, not, cond}
 use Prim.Native.Nat.{ℕ, zero, suc, _+_, _-_, _*_, _/_, _%_, _^_, _≤_, _<_, min, compare, Ordering, Ordering·lt, Ordering·eq, Ordering·gt}
-use native.Mathlib.Nat.{le-trans, le-of-eq, le-of-lt, lt-of-lt-of-le, lt-of-le-of-lt, lt-of-not-le, not-le-of-lt, eq-or-lt-of-le, zero-lt-suc, mul-assoc, mul-comm, mul-pos, mul-le-mul, mul-le-mul-right, le-of-mul-le-mul-right, le-of-suc-le-suc, le-div-iff-mul-le, div-eq-of-lt, mod-eq-of-lt, zero-add, min-eq-left, min-eq-right, pow-suc}
+use native.Mathlib.Nat.{le-trans, le-of-eq, le-of-lt, lt-of-lt-of-le, lt-of-le-of-lt, lt-of-not-le, not-le-of-lt, eq-or-lt-of-le, zero-lt-suc, mul-assoc, mul-comm, mul-pos, mul-le-mul, mul-le-mul-right, le-of-mul-le-mul-right, le-of-suc-le-suc, le-div-iff-mul-le, div-eq-of-lt, mod-eq-of-lt, zero-add, add-zero, min-eq-left, min-eq-right, pow-suc}
+use native.Mathlib.Numerals.{add-one}
 use native.Mathlib.Omega.{arith}
-use borrow.Author.Tests.{lt-leb, le-leb, eq-eqb, ne-eqb}
+use borrow.Author.Tests.{lt-leb, le-leb, lt-ltb, le-ltb, ltb-true, ltb-false, eq-eqb, ne-eqb}
 use lib.Dec.{T, ltb, leb, eqb, isLe, isEq, ltb→lt, nltb→le, lit<, lit≤}
 use lib.Pow.{pow-add, pow-pos, pow-mono, shl-lt, shl-shr, shr-shr, shr-lt}
 use lib.Ieee.{inf, binary32, size, nearest, odd, units, round, ofBits}
@@ -14,6 +15,7 @@ use lib.Ieee.Digits.{size-lt, size-le}
 use lib.Ieee.Exact.{odd-sign}
 use lib.Ieee.Fits.{odd-fits, nearest-le, round-is, core}
 use lib.Ieee.Nearest.{closest, closest-same, nearest-ge}
+use mir.Val.{boolByte}
 use Rattle.float.proofs.Value.{weight, bits-of}
 
 -- ---- the nearest whole number, by the two tests on what is left over
@@ -26,14 +28,42 @@ module _ (q n : ℕ) where
   tests : closest q n ≡ cond (eqb (q % n * 2) n) (q / n + q / n % 2) (cond (leb (q % n * 2) n) (q / n) (suc (q / n)))
   tests = by-tests (q / n) (compare (q % n * 2) n)
 
-  pub goes-down : q % n * 2 < n → closest q n ≡ q / n
+  goes-down : q % n * 2 < n → closest q n ≡ q / n
   goes-down h = rw (tests, ne-eqb (q % n * 2) n (omega arith), le-leb (q % n * 2) n (le-of-lt h))
 
-  pub goes-up : n < q % n * 2 → closest q n ≡ suc (q / n)
+  goes-up : n < q % n * 2 → closest q n ≡ suc (q / n)
   goes-up h = rw (tests, ne-eqb (q % n * 2) n (omega arith), lt-leb (q % n * 2) n h)
 
-  pub goes-even : n ≤ q % n * 2 → q % n * 2 ≤ n → closest q n ≡ q / n + q / n % 2
+  goes-even : n ≤ q % n * 2 → q % n * 2 ≤ n → closest q n ≡ q / n + q / n % 2
   goes-even h k = rw (tests, eq-eqb (q % n * 2) n (omega arith))
+
+  -- the three in one test: more than a half goes up, and a half where the quotient is odd
+  pub goes-by : q / n + boolByte (ltb n (q % n * 2 + q / n % 2)) ≡ closest q n
+  goes-by = go (ltb n twice) refl
+    where
+      twice : ℕ
+      twice = q % n * 2
+
+      kept : ℕ
+      kept = q / n
+
+      up : n < twice + kept % 2 → closest q n ≡ suc kept → kept + boolByte (ltb n (twice + kept % 2)) ≡ closest q n
+      up l e = rw (lt-ltb n (twice + kept % 2) l) (add-one kept ∙ sym e)
+
+      down : twice + kept % 2 ≤ n → closest q n ≡ kept → kept + boolByte (ltb n (twice + kept % 2)) ≡ closest q n
+      down l e = rw (le-ltb n (twice + kept % 2) l) (add-zero kept ∙ sym e)
+
+      even : (p : ℕ) → kept % 2 ≡ p → n ≡ twice → kept + boolByte (ltb n (twice + kept % 2)) ≡ closest q n
+      even zero o e = down (omega arith) (goes-even (omega arith) (omega arith) ∙ rw o (add-zero kept))
+      even (suc p) o e = let one : kept % 2 ≡ 1 = omega arith in up (omega arith) (goes-even (omega arith) (omega arith) ∙ rw one (add-one kept))
+
+      go : (b : Bool) → ltb n twice ≡ b → kept + boolByte (ltb n (twice + kept % 2)) ≡ closest q n
+      go true e = let l : n < twice = ltb-true n twice e in up (omega arith) (goes-up l)
+      go false e =
+          elim (eq-or-lt-of-le (ltb-false n twice e)) [
+            | inl h ↦ even (kept % 2) refl (sym h)
+            | inr h ↦ down (omega arith) (goes-down h)
+          ]
 
   closest-le : closest q n ≤ suc (q / n)
   closest-le = nearest-le (q / n) (compare (q % n * 2) n)

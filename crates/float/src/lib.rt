@@ -15,13 +15,8 @@ fn rounded_shift(q: u64, n: u64) -> u64
     let kept = q >> n;
     let unit: u64 = 1 << n;
     let twice = q % unit * 2;
-    if twice < unit {
-        return kept;
-    }
-    if unit < twice {
-        return kept + 1;
-    }
-    kept + kept % 2
+    // more than a half goes up, and a half where `kept` is odd
+    kept + ((unit < twice + kept % 2) as u64)
 }
 
 // The f32 pattern for the f64 pattern `bits`, from +0 up to the infinity.

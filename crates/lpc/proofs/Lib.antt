@@ -1,4 +1,6 @@
 -- Laws about lpc's definitions.
 pub mod FilterLaws
 pub mod RingLaws
+pub mod RunLaws
 pub mod StateLaws
+pub mod SumLaws

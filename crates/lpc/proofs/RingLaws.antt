@@ -28,6 +28,14 @@ after-less order at l = let n : at ≡ order → ⊥ = λ e. omega arith in simp
 pub after-low : (order at : ℕ) → at ≤ order → placeAfter order at ≤ order
 after-low order at h = ⊎-elim (λ e. simp (eq-eqb at order e) (omega arith)) (λ l. rw (after-less order at l) (omega arith)) (eq-or-lt-of-le h)
 
+before-low : (order at : ℕ) → at ≤ order → placeBefore order at ≤ order
+before-low order at h = ⊎-elim (λ e. simp (eq-eqb at 0 e) (omega arith)) (λ l. rw (before-pos order at l) (omega arith)) (zero-or at)
+
+tap-low : (order at : ℕ) → at ≤ order → (k : ℕ) → tap order at k ≤ order
+unfolding tap
+tap-low order at h zero = before-low order at h
+tap-low order at h (suc k) = before-low order (tap order at k) (tap-low order at h k)
+
 before-after : (order at : ℕ) → at ≤ order → placeBefore order (placeAfter order at) ≡ at
 before-after order at h =
     ⊎-elim (λ e. simp (eq-eqb at order e) (sym e))
@@ -62,7 +70,23 @@ tap-far order at k h l e = far (tap order at k) e (stands order at k h (omega ar
 
 -- ---- a ring that holds the outputs h
 
+-- a place of a list, whatever a place past its end counts
+getD-default : {A : Type 0} (l : List A) (i : ℕ) (d e : A) → i < length l → getD l i d ≡ getD l i e
+getD-default [] i d e h = absurd (omega arith)
+getD-default (x ∷ l) zero d e h = refl
+getD-default (x ∷ l) (suc i) d e h = getD-default l i d e (omega arith)
+
+-- what was written last stands before the place that is written next
+pub newest : {A : Type 0} (order place : ℕ) (h : List A) (y d : A) → place ≤ order → order < length h → getD (set h place y) (placeBefore order (placeAfter order place)) d ≡ y
+newest {A} order place h y d p l =
+    let g : place < length h = omega arith in
+    ap (λ (t : ℕ). getD (set h place y) t d) (before-after order place p) ∙ getD-set-same h place y d g
+
 module _ {A : Type 0} (f : Filter A) (order : ℕ) where
+  -- a tap is never past the ring's end
+  pub ago-default : (r : Ring A) (d : A) → r .place ≤ order → order < length (r .history) → (k : ℕ) → getD (r .history) (tap order (r .place) k) d ≡ ago f order r k
+  ago-default r d p h k = getD-default (r .history) (tap order (r .place) k) d (f .rest) (omega (arith, tap-low order (r .place) p k))
+
   pub record Holds (r : Ring A) (h : List A) : Type 0 where
     pub placeLow : r .place ≤ order
     pub room : order < length (r .history)
@@ -73,9 +97,7 @@ module _ {A : Type 0} (f : Filter A) (order : ℕ) where
   holds-pushed r h y p = record { placeLow = after-low order (r .place) (p .placeLow); room = simp length-set (p .room); same = same }
     where
       same : (k : ℕ) → k < order → ago f order (pushed f order r y) k ≡ back f (y ∷ h) k
-      same zero l =
-          let g : r .place < length (r .history) = omega (arith, p .placeLow, p .room) in
-          ap (λ (t : ℕ). getD (set (r .history) (r .place) y) t (f .rest)) (before-after order (r .place) (p .placeLow)) ∙ getD-set-same (r .history) (r .place) y (f .rest) g
+      same zero l = newest order (r .place) (r .history) y (f .rest) (p .placeLow) (p .room)
       same (suc k) l =
           ap (λ (t : ℕ). getD (set (r .history) (r .place) y) t (f .rest)) (tap-after order (r .place) (p .placeLow) k)
           ∙ getD-set-other (r .history) (r .place) (tap order (r .place) k) y (f .rest) (tap-far order (r .place) k (p .placeLow) (omega arith))

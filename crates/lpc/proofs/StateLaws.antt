@@ -1,10 +1,12 @@
 -- A filter state goes on with the samples that the list of periods defines.
-use mathlib.Core.Path.{_≡_, refl, ap, _∙_}
+use mathlib.Core.Path.{_≡_, refl, sym, ap, _∙_}
 use mathlib.Core.List.{List, [], _∷_}
 use Prim.Native.Nat.{ℕ, zero, suc, _+_, _≤_}
 use native.Mathlib.Omega.{arith}
 use lib.ListN.{length, getD, replicate, length-replicate}
 use lib.Ieee.{Float}
+use Rattle.base.specs.Buffers.{over, flat}
+use Rattle.base.specs.Bytes.{bytesOf}
 use Rattle.lpc.specs.declared.ResynthType.{ResynthType}
 use Rattle.lpc.specs.declared.ResynthType.the-variants.{Fixed, Float as FloatType}
 use Rattle.lpc.specs.declared.FilterState.{FilterState}
@@ -69,6 +71,12 @@ module _ (s : FilterState) (p : Part) where
   abbrev floatNow : Ring Float
   floatNow = ringAfter (floatOf s) (s .order) (p .row) (floatRing s) (p .bytes)
 
+  abbrev fixedSpoken : List ℕ
+  fixedSpoken = ringSamples (fixedOf s) (s .order) (p .row) (fixedRing s) (p .bytes)
+
+  abbrev floatSpoken : List ℕ
+  floatSpoken = ringSamples (floatOf s) (s .order) (p .row) (floatRing s) (p .bytes)
+
   abbrev choose : {X : Type 0} → ResynthType → X → X → X
   choose t x y = elim t [ Fixed ↦ x | FloatType ↦ y ]
 
@@ -82,9 +90,22 @@ module _ (s : FilterState) (p : Part) where
   unfolding advanced
   advanced-is t e = ap (λ (u : ResynthType). choose u byFixed byFloat) e
 
-  spoken-is : (t : ResynthType) → s .filter ≡ t → spoken s p ≡ choose t (ringSamples (fixedOf s) (s .order) (p .row) (fixedRing s) (p .bytes)) (ringSamples (floatOf s) (s .order) (p .row) (floatRing s) (p .bytes))
+  spoken-is : (t : ResynthType) → s .filter ≡ t → spoken s p ≡ choose t fixedSpoken floatSpoken
   unfolding spoken
-  spoken-is t e = ap (λ (u : ResynthType). choose u (ringSamples (fixedOf s) (s .order) (p .row) (fixedRing s) (p .bytes)) (ringSamples (floatOf s) (s .order) (p .row) (floatRing s) (p .bytes))) e
+  spoken-is t e = ap (λ (u : ResynthType). choose u fixedSpoken floatSpoken) e
+
+  -- the state after it, and the buffer d with its samples
+  abbrev Given : List ℕ → List ℕ → FilterState → Type 0
+  Given d d₀ t = (t ≡ advanced s p) × (d ≡ over (flat (bytesOf 2) (spoken s p)) d₀)
+
+  -- a period's ring and bytes, as a loop leaves them, are the state after it and its samples
+  pub fixed-given : (r : Ring ℕ) (d d₀ : List ℕ) → s .filter ≡ Fixed → (r ≡ fixedNow) × (d ≡ over (flat (bytesOf 2) fixedSpoken) d₀) → Given d d₀ (advancedBy s (length (p .bytes)) (r .place) (r .history) (s .float))
+  fixed-given r d d₀ e g =
+      (ap (λ (t : Ring ℕ). advancedBy s (length (p .bytes)) (t .place) (t .history) (s .float)) (g .0) ∙ sym (advanced-is Fixed e), g .1 ∙ rw (spoken-is Fixed e))
+
+  pub float-given : (r : Ring Float) (d d₀ : List ℕ) → s .filter ≡ FloatType → (r ≡ floatNow) × (d ≡ over (flat (bytesOf 2) floatSpoken) d₀) → Given d d₀ (advancedBy s (length (p .bytes)) (r .place) (s .fixed) (r .history))
+  float-given r d d₀ e g =
+      (ap (λ (t : Ring Float). advancedBy s (length (p .bytes)) (t .place) (s .fixed) (t .history)) (g .0) ∙ sym (advanced-is FloatType e), g .1 ∙ rw (spoken-is FloatType e))
 
   pub kept : Kept s (advanced s p) (length (p .bytes))
   kept = by (s .filter) refl

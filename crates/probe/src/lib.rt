@@ -1,4 +1,6 @@
 // Leaf functions, exported so that the comparison with the Rust can call them.
+use lpc::FilterState;
+use lpc::ResynthType;
 ghost use mathlib.Core.Path.{_≡_};
 ghost use Prim.Native.Nat.{_*_, _/_, _%_, _^_};
 ghost use lib.Dec.{leb};
@@ -7,11 +9,13 @@ ghost use lib.Ieee.{binary32, ofBits, toBits, ofInt, toSigned, toUnsigned};
 ghost use lib.ListN.{length};
 ghost use lib.Signed.{quotZ};
 ghost use Rattle.adpcm.specs.Decoder.{decoded};
-ghost use Rattle.base.specs.Buffers.{over};
+ghost use Rattle.base.specs.Buffers.{over, flat};
+ghost use Rattle.base.specs.Bytes.{bytesOf};
 ghost use Rattle.base.specs.Choice.{pick};
 ghost use Rattle.base.specs.Words.{low, signed32};
 ghost use Rattle.float.specs.Casts.{narrow, clamped};
 ghost use Rattle.float.specs.Distance.{nearer};
+ghost use Rattle.probe.specs.Filters.{filterOf, twoPeriods, Lent, fits};
 ghost use Rattle.ulaw.specs.Ulaw.{sampleOf, ulawOf};
 
 // Rust's `x as f32`.
@@ -148,4 +152,91 @@ pub extern "C" fn probe_decode_adpcm(packed: &[u8], out: &mut [u8])
     if packed.len() <= out.len() / 2 {
         adpcm::decode_adpcm(packed, out);
     }
+}
+
+// The filter that a number stands for.
+fn filter_of(filter: u32) -> ResynthType
+    ensures { λ r. ⌜ r ≡ filterOf filter ⌝ }
+{
+    if filter == 0 {
+        ResynthType::Fixed
+    } else {
+        ResynthType::Float
+    }
+}
+
+// The samples of two periods from a fresh state.
+fn two_periods(
+    filter: u32,
+    order: usize,
+    coeff_min: f32,
+    coeff_range: f32,
+    rows: &[u8],
+    first: usize,
+    excitation: &[u8],
+    samples: &mut [u8],
+)
+    requires { ⌜ Lent order (now rows) first (now excitation) (now samples) ⌝ }
+    ensures { λ _. ⌜ now (samples .exit) ≡ over (flat (bytesOf 2) (twoPeriods filter order «coeff_min» «coeff_range» (now (rows .entry)) first (now (excitation .entry)))) (now (samples .entry)) ⌝ }
+{
+    let state = FilterState::fresh(filter_of(filter), order, coeff_min, coeff_range);
+    let middle = 2 * order;
+    let after = lpc_period::resynthesise_period(
+        state,
+        &rows[..middle],
+        &excitation[..first],
+        samples,
+    );
+    let at = 2 * first;
+    lpc_period::resynthesise_period(
+        after,
+        &rows[middle..],
+        &excitation[first..],
+        &mut samples[at..],
+    );
+}
+
+// The samples of two periods from a fresh state: the first has `first` bytes of the excitation. Where
+// what is lent does not fit, nothing is written.
+#[no_mangle]
+pub extern "C" fn probe_resynthesise(
+    filter: u32,
+    order: usize,
+    coeff_min: f32,
+    coeff_range: f32,
+    rows: &[u8],
+    first: usize,
+    excitation: &[u8],
+    samples: &mut [u8],
+)
+    ensures { λ _.
+        ⌜
+        now (samples .exit) ≡
+        pick (fits order (now (rows .entry)) first (now (excitation .entry)) (now (samples .entry)))
+        (over (flat (bytesOf 2) (twoPeriods filter order «coeff_min» «coeff_range» (now (rows .entry)) first (now (excitation .entry)))) (now (samples .entry)))
+        (now (samples .entry))
+        ⌝ }
+{
+    if 32 < order {
+        return;
+    }
+    if rows.len() != 4 * order {
+        return;
+    }
+    if excitation.len() < first {
+        return;
+    }
+    if samples.len() / 2 < excitation.len() {
+        return;
+    }
+    two_periods(
+        filter,
+        order,
+        coeff_min,
+        coeff_range,
+        rows,
+        first,
+        excitation,
+        samples,
+    );
 }

@@ -1,0 +1,2 @@
+-- The root of lpc_fixed's definitions.
+pub mod Values

@@ -1,0 +1,3 @@
+-- Laws about the float filter.
+pub mod NextLaws
+pub mod SampleLaws

@@ -1,0 +1,2 @@
+-- The root of lpc_float's definitions.
+pub mod Values

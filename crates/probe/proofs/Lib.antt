@@ -1,0 +1,2 @@
+-- Laws about probe's definitions.
+pub mod FilterLaws

@@ -1,0 +1,2 @@
+-- The root of probe's definitions.
+pub mod Filters
