@@ -1,2 +1,3 @@
 -- Laws about units' definitions.
 pub mod UnitLaws
+pub mod NameLaws

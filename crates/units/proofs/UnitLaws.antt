@@ -15,10 +15,11 @@ use Rattle.voice.specs.Opening.{endPeriod, withinFrames, distinct}
 use Rattle.voice.specs.Extends.{Extends}
 use Rattle.voice.proofs.EntryLaws.{lookup-finds, stands-found, stands-within}
 use Rattle.sheet.specs.Sheet.{SegmentRead, asF32}
+use Rattle.sheet.specs.Followers.{nameOf}
 use Rattle.sheet.proofs.SheetLaws as sheets
 use Rattle.sheet.proofs.SheetLaws.{Refers}
 use Rattle.units.specs.declared.Unit.{Unit}
-use Rattle.units.specs.Selecting.{foldSegment, folded, nameOf, inCluster, firstTried, entryOf, foundFrom, foundAll, firstTriedFound}
+use Rattle.units.specs.Selecting.{foldSegment, folded, inCluster, firstTried, entryOf, foundFrom, foundAll, firstTriedFound}
 use Rattle.units.specs.Units.{unitsOfPair, unitsFrom, unitsAll, unitsOf}
 
 -- units whose periods are below n

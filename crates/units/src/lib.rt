@@ -1,4 +1,5 @@
 // The units of a call: half a diphone each, stretched to a target end.
+pub mod names;
 
 // A unit: its first pitch period, the period after its last, and where it should end, in output
 // samples.
