@@ -1,3 +1,4 @@
 -- Laws about units' definitions.
 pub mod UnitLaws
 pub mod NameLaws
+pub mod SelectLaws

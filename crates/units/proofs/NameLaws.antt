@@ -61,3 +61,7 @@ stored-after q p d b t a k eb ea ek et =
 
 pub length-pair : (cluster : Bool) (left right : List ℕ) → length (pairName cluster left right) ≡ length left + length (joint cluster) + length right
 length-pair cluster left right = simp length-append (omega arith)
+
+-- the front of the buffer is the name
+pub front-is : (p d b : List ℕ) (n : ℕ) → n ≡ length p → b ≡ over p d → take n b ≡ p
+front-is p d b n e f = ap (take n) f ∙ take-over p d n (sym e)

@@ -1,3 +1,4 @@
 -- The root of units' definitions.
 pub mod Selecting
 pub mod Units
+pub mod Asked

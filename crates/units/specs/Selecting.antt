@@ -61,11 +61,14 @@ abbrev pub orElse : Option Entry → Entry → Entry
 orElse none d = d
 orElse (some e) d = e
 
+-- 'then `left-right`; then the sorted first entry'
+abbrev pub plainEntry : Voice → List ℕ → List ℕ → Entry
+plainEntry v left right = orElse (lookup (plainName left right) (v .entries)) (firstOf (sorted v))
+
 -- 'try `left_-_right`; then `left-right`; then the sorted first entry'
 unfoldable pub entryOf : Voice → List SegmentRead → SegmentRead → SegmentRead → Entry
 entryOf v ss left right =
-    orElse (lookup (firstTried ss left right) (v .entries))
-    (orElse (lookup (plainName (left .name) (right .name)) (v .entries)) (firstOf (sorted v)))
+    orElse (lookup (firstTried ss left right) (v .entries)) (plainEntry v (left .name) (right .name))
 
 -- ---- each pair finds its first-tried name
 

@@ -1,5 +1,6 @@
 // The units of a call: half a diphone each, stretched to a target end.
 pub mod names;
+pub mod select;
 
 // A unit: its first pitch period, the period after its last, and where it should end, in output
 // samples.
