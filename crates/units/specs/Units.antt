@@ -1,8 +1,8 @@
 -- Document 01, 'Selecting and marking': halves and target ends.
 use mathlib.Core.List.{List, [], _∷_, _++_}
 use mathlib.Core.Option.{Option, none, some}
-use mathlib.Core.Bool.{false}
-use Prim.Native.Nat.{ℕ, _+_}
+use mathlib.Core.Bool.{Bool, false, _&&_}
+use Prim.Native.Nat.{ℕ, _+_, _≤_}
 use lib.Dec.{leb}
 use lib.IntN.{pos}
 use lib.Ieee.{Float, fin, binary32, add, mul, div, ofInt, toUnsigned}
@@ -10,8 +10,11 @@ use Rattle.base.specs.Choice.{pick}
 use Rattle.refusal.specs.declared.Refusal.{Refusal}
 use Rattle.refusal.specs.declared.Refusal.the-variants.{PastLimit}
 use Rattle.voice.specs.Voice.{Entry, Voice}
+use Rattle.index.specs.declared.EntryPeriods.{EntryPeriods}
 use Rattle.sheet.specs.Sheet.{SegmentRead, asF32}
 use Rattle.units.specs.declared.Unit.{Unit}
+use Rattle.units.specs.declared.UnitPair.{UnitPair}
+use Rattle.units.specs.declared.TargetEnds.{TargetEnds}
 use Rattle.units.specs.Selecting.{entryOf}
 
 -- a time in seconds × rate, in f32, 'truncated, 0 below zero'
@@ -30,6 +33,26 @@ unitsOfPair rate e left right =
     ∷ record { «first_period» = middle; «last_period» = middle + e .second; «target_end» = samplesAt rate (midway left right) }
     ∷ []
 
+-- the target ends of a pair, and its units by the numbers of the entry
+abbrev pub endsOf : ℕ → Float → Float → TargetEnds
+endsOf rate left right = record { first = samplesAt rate left; second = samplesAt rate (midway left right) }
+
+abbrev pub pairOf : EntryPeriods → TargetEnds → UnitPair
+pairOf e ends =
+    let middle = e .start + e .first in
+    record {
+      first = record { «first_period» = e .start; «last_period» = middle; «target_end» = ends .first };
+      second = record { «first_period» = middle; «last_period» = middle + e .second; «target_end» = ends .second };
+    }
+
+abbrev pub listed : UnitPair → List Unit
+listed p = p .first ∷ p .second ∷ []
+
+-- a unit's periods are among so many
+pub record Inside (frames : ℕ) (u : Unit) : Type 0 where
+  pub rising : u .«first_period» ≤ u .«last_period»
+  pub within : u .«last_period» ≤ frames
+
 -- the pair of `left` and the first of the segments after it, and so on; ss has all segments, to which followers refer
 unfoldable pub unitsFrom : Voice → List SegmentRead → SegmentRead → List SegmentRead → List Unit
 unitsFrom v ss left [] = []
@@ -47,6 +70,10 @@ unitsOf v ss = unitsAll v ss ss
 -- the greatest mark or target end that a call has
 abbrev pub limit : ℕ
 limit = 16777215
+
+-- both target ends of a pair are within it
+abbrev pub endsFit : TargetEnds → Bool
+endsFit e = leb (e .first) limit && leb (e .second) limit
 
 -- 11 at the first target end above the limit, in unit order
 unfoldable pub endRefusal : List Unit → Option Refusal

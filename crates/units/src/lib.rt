@@ -1,4 +1,5 @@
 // The units of a call: half a diphone each, stretched to a target end.
+pub mod ends;
 pub mod names;
 pub mod select;
 
@@ -8,4 +9,16 @@ pub struct Unit {
     pub first_period: usize,
     pub last_period: usize,
     pub target_end: usize,
+}
+
+// The two units of a pair of phones.
+pub struct UnitPair {
+    pub first: Unit,
+    pub second: Unit,
+}
+
+// Where the two units of a pair should end.
+pub struct TargetEnds {
+    pub first: usize,
+    pub second: usize,
 }
