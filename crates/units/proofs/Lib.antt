@@ -2,3 +2,4 @@
 pub mod UnitLaws
 pub mod NameLaws
 pub mod SelectLaws
+pub mod WalkLaws

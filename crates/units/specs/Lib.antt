@@ -2,3 +2,4 @@
 pub mod Selecting
 pub mod Units
 pub mod Asked
+pub mod Walking

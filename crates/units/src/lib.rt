@@ -2,6 +2,9 @@
 pub mod ends;
 pub mod names;
 pub mod select;
+pub mod walk;
+
+use sheet::Segment;
 
 // A unit: its first pitch period, the period after its last, and where it should end, in output
 // samples.
@@ -21,4 +24,12 @@ pub struct UnitPair {
 pub struct TargetEnds {
     pub first: usize,
     pub second: usize,
+}
+
+// A walk over the pairs of a sheet: the left segment of the next pair, the place of the right one,
+// and how many segments are still to come.
+pub struct PairWalk {
+    pub left: Segment,
+    pub next: usize,
+    pub remaining: usize,
 }
