@@ -3,3 +3,4 @@ pub mod UnitLaws
 pub mod NameLaws
 pub mod SelectLaws
 pub mod WalkLaws
+pub mod EndLaws
