@@ -4,3 +4,4 @@ pub mod NameLaws
 pub mod SelectLaws
 pub mod WalkLaws
 pub mod EndLaws
+pub mod StepLaws

@@ -2,6 +2,7 @@
 pub mod ends;
 pub mod names;
 pub mod select;
+pub mod step;
 pub mod walk;
 
 use sheet::Segment;
@@ -32,4 +33,23 @@ pub struct PairWalk {
     pub left: Segment,
     pub next: usize,
     pub remaining: usize,
+}
+
+// The units of a pair, and the walk after it.
+pub struct PairStep {
+    pub units: UnitPair,
+    pub walk: PairWalk,
+}
+
+// A walk over units: that over the pairs, and between the two units of a pair the second.
+pub struct UnitWalk {
+    pub pairs: PairWalk,
+    pub second: Unit,
+    pub halfway: bool,
+}
+
+// A unit, and the walk after it.
+pub struct UnitStep {
+    pub unit: Unit,
+    pub walk: UnitWalk,
 }

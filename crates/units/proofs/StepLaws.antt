@@ -1,0 +1,77 @@
+-- One step over the units that are still to come.
+use mathlib.Core.Path.{_≡_, refl, sym, ap, subst, _∙_}
+use mathlib.Core.Bool.{Bool, true, false}
+use mathlib.Core.List.{List, [], _∷_, _++_}
+use Prim.Native.Nat.{ℕ, _+_, _≤_, _<_, _^_}
+use native.Mathlib.Omega.{arith}
+use lib.Ieee.{Float}
+use lib.ListN.{length}
+use Rattle.voice.specs.declared.DiphoneVoice.{DiphoneVoice}
+use Rattle.voice.specs.declared.VoiceHeader.{VoiceHeader}
+use Rattle.voice.specs.Voice.{Entry, Voice, voiceOf}
+use Rattle.voice.specs.Opening.{IsOpen}
+use Rattle.voice.proofs.TableLaws.{header-is}
+use Rattle.voice.proofs.OpenLaws.{offset-within}
+use Rattle.index.specs.declared.EntryPeriods.{EntryPeriods}
+use Rattle.index.specs.Index.{periodsOf}
+use Rattle.sheet.specs.Sheet.{SegmentRead, asF32, sheetOf}
+use Rattle.sheet.specs.Answers.{segmentRead}
+use Rattle.units.specs.declared.Unit.{Unit}
+use Rattle.units.specs.declared.UnitPair.{UnitPair}
+use Rattle.units.specs.declared.PairWalk.{PairWalk}
+use Rattle.units.specs.Selecting.{foldedSegment, folded, entryOf}
+use Rattle.units.specs.Units.{endsOf, pairOf, listed, Inside, unitsOfPair, unitsFrom, unitsAll, unitsOf}
+use Rattle.units.specs.Walking.{coming, Walking, unitsComing, StepsPair}
+use Rattle.units.proofs.EndLaws.{folded-cons}
+
+-- an open voice has few frames
+pub few-frames : (file : List ℕ) (d : DiphoneVoice) → IsOpen file d → length file < 2 ^ 63 → d .header .frames < 2 ^ 63
+few-frames file d o h = let w = offset-within file d o (d .header .frames) (omega arith) in omega arith
+
+pair-listed : (rate : ℕ) (x : Entry) (l r : Float) → unitsOfPair rate x l r ≡ listed (pairOf (periodsOf x) (endsOf rate l r))
+unfolding unitsOfPair
+pair-listed rate x l r = refl
+
+-- the units of the pairs from the first segment on are all
+pub coming-first : (v : Voice) (fold : Bool) (sheet : List ℕ) (count : ℕ) (w : PairWalk) → sheetOf sheet .segments ≡ segmentRead sheet (w .left) ∷ coming sheet count w
+    → unitsOf v (folded fold (sheetOf sheet .segments)) ≡ unitsComing v fold sheet count w
+unfolding unitsAll
+coming-first v fold sheet count w e =
+    ap (unitsAll v (folded fold (sheetOf sheet .segments))) (ap (folded fold) e ∙ folded-cons fold (segmentRead sheet (w .left)) (coming sheet count w))
+
+module _ (v : Voice) (fold : Bool) (sheet : List ℕ) (count : ℕ) (w x : PairWalk) (e : coming sheet count w ≡ segmentRead sheet (x .left) ∷ coming sheet count x) where
+  abbrev ss : List SegmentRead
+  ss = folded fold (sheetOf sheet .segments)
+
+  abbrev entry : Entry
+  entry = entryOf v ss (foldedSegment fold (segmentRead sheet (w .left))) (foldedSegment fold (segmentRead sheet (x .left)))
+
+  pub coming-next : unitsComing v fold sheet count w ≡ unitsOfPair (v .header .rate) entry (asF32 (w .left .end)) (asF32 (x .left .end)) ++ unitsComing v fold sheet count x
+  unfolding unitsFrom
+  coming-next = ap (unitsFrom v ss (foldedSegment fold (segmentRead sheet (w .left)))) (ap (folded fold) e ∙ folded-cons fold (segmentRead sheet (x .left)) (coming sheet count x))
+
+pair-inside : (n : ℕ) (e : EntryPeriods) (l r : ℕ) → e .start + e .first + e .second ≤ n → let p = pairOf e (record { first = l; second = r }) in Inside n (p .first) × Inside n (p .second)
+pair-inside n e l r h = (record { rising = omega arith; within = omega arith }, record { rising = omega arith; within = omega arith })
+
+module _ (file : List ℕ) (d : DiphoneVoice) (o : IsOpen file d) (fold : Bool) (sheet : List ℕ) (count : ℕ) (w x : PairWalk)
+    (n : (Walking sheet count x × (x .remaining + 1 ≡ w .remaining)) × (coming sheet count w ≡ segmentRead sheet (x .left) ∷ coming sheet count x))
+    (e : EntryPeriods) (s : (e ≡ periodsOf (entry (voiceOf file) fold sheet count w x (n .1))) × (e .start + e .first + e .second ≤ d .header .frames)) (u : UnitPair)
+    (p : u ≡ pairOf e (endsOf (d .header .rate) (asF32 (w .left .end)) (asF32 (x .left .end)))) where
+  pub steps-pair : StepsPair file d fold sheet count w (record { units = u; walk = x })
+  steps-pair =
+      let l = asF32 (w .left .end) in
+      let r = asF32 (x .left .end) in
+      let i = pair-inside (d .header .frames) e (endsOf (d .header .rate) l r .first) (endsOf (d .header .rate) l r .second) (s .1) in
+      let rate : voiceOf file .header .rate ≡ d .header .rate = ap (λ (h : VoiceHeader). h .rate) (header-is file d (o .places)) in
+      let is : unitsOfPair (voiceOf file .header .rate) (entry (voiceOf file) fold sheet count w x (n .1)) l r ≡ listed u =
+      ap (λ (k : ℕ). unitsOfPair k (entry (voiceOf file) fold sheet count w x (n .1)) l r) rate
+      ∙ pair-listed (d .header .rate) (entry (voiceOf file) fold sheet count w x (n .1)) l r
+      ∙ ap (λ (q : EntryPeriods). listed (pairOf q (endsOf (d .header .rate) l r))) (sym (s .0))
+      ∙ sym (ap listed p) in
+      record {
+        units = coming-next (voiceOf file) fold sheet count w x (n .1) ∙ ap (λ (us : List Unit). us ++ unitsComing (voiceOf file) fold sheet count x) is;
+        walking = n .0 .0;
+        fewer = n .0 .1;
+        first = subst (λ (q : UnitPair). Inside (d .header .frames) (q .first)) (sym p) (i .0);
+        second = subst (λ (q : UnitPair). Inside (d .header .frames) (q .second)) (sym p) (i .1);
+      }
