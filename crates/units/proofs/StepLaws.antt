@@ -2,10 +2,14 @@
 use mathlib.Core.Path.{_≡_, refl, sym, ap, subst, _∙_}
 use mathlib.Core.Bool.{Bool, true, false}
 use mathlib.Core.List.{List, [], _∷_, _++_}
-use Prim.Native.Nat.{ℕ, _+_, _≤_, _<_, _^_}
+use Prim.Native.Nat.{ℕ, _+_, _*_, _≤_, _<_, _^_}
+use borrow.Author.Tests.{lt-ltb, le-ltb}
+use lib.Dec.{ltb}
 use native.Mathlib.Omega.{arith}
 use lib.Ieee.{Float}
 use lib.ListN.{length}
+use Rattle.base.specs.Choice.{pick}
+use Rattle.base.proofs.CaseLaws.{by-order}
 use Rattle.voice.specs.declared.DiphoneVoice.{DiphoneVoice}
 use Rattle.voice.specs.declared.VoiceHeader.{VoiceHeader}
 use Rattle.voice.specs.Voice.{Entry, Voice, voiceOf}
@@ -19,9 +23,11 @@ use Rattle.sheet.specs.Answers.{segmentRead}
 use Rattle.units.specs.declared.Unit.{Unit}
 use Rattle.units.specs.declared.UnitPair.{UnitPair}
 use Rattle.units.specs.declared.PairWalk.{PairWalk}
+use Rattle.units.specs.declared.PairStep.{PairStep}
+use Rattle.units.specs.declared.UnitWalk.{UnitWalk}
 use Rattle.units.specs.Selecting.{foldedSegment, folded, entryOf}
 use Rattle.units.specs.Units.{endsOf, pairOf, listed, Inside, unitsOfPair, unitsFrom, unitsAll, unitsOf}
-use Rattle.units.specs.Walking.{coming, Walking, unitsComing, StepsPair}
+use Rattle.units.specs.Walking.{coming, Walking, unitsComing, StepsPair, withSecond, manyLeft, UnitWalking, StartsUnits, StepsUnit}
 use Rattle.units.proofs.EndLaws.{folded-cons}
 
 -- an open voice has few frames
@@ -74,4 +80,60 @@ module _ (file : List ℕ) (d : DiphoneVoice) (o : IsOpen file d) (fold : Bool) 
         fewer = n .0 .1;
         first = subst (λ (q : UnitPair). Inside (d .header .frames) (q .first)) (sym p) (i .0);
         second = subst (λ (q : UnitPair). Inside (d .header .frames) (q .second)) (sym p) (i .1);
+      }
+
+-- ---- unit after unit
+
+many-by : (w : UnitWalk) (t : Bool) → w .halfway ≡ t → manyLeft w ≡ pick t 1 0 + 2 * w .pairs .remaining
+many-by w t e = ap (λ (u : Bool). pick u 1 0 + 2 * w .pairs .remaining) e
+
+pub some-second : (w : UnitWalk) → w .halfway ≡ true → ltb 0 (manyLeft w) ≡ true
+some-second w e = let h = many-by w true e in lt-ltb 0 (manyLeft w) (omega arith)
+
+pub some-pair : (w : UnitWalk) → w .halfway ≡ false → ltb 0 (w .pairs .remaining) ≡ ltb 0 (manyLeft w)
+some-pair w e =
+    let h = many-by w false e in
+    by-order 0 (w .pairs .remaining)
+    (λ l. lt-ltb 0 (w .pairs .remaining) l ∙ sym (lt-ltb 0 (manyLeft w) (omega arith)))
+    (λ l. le-ltb 0 (w .pairs .remaining) l ∙ sym (le-ltb 0 (manyLeft w) (omega arith)))
+
+-- where no unit waits, a pair does
+pub pair-left : (w : UnitWalk) → w .halfway ≡ false → 0 < manyLeft w → 0 < w .pairs .remaining
+pair-left w e l = let h = many-by w false e in omega arith
+
+pub starts-units : (sheet : List ℕ) (count : ℕ) (w : PairWalk)
+    → (Walking sheet count w × (w .remaining + 1 ≡ count)) × (sheetOf sheet .segments ≡ segmentRead sheet (w .left) ∷ coming sheet count w)
+    → StartsUnits sheet count (record { pairs = w; second = record { «first_period» = 0; «last_period» = 0; «target_end» = 0 }; halfway = false })
+starts-units sheet count w n =
+    record {
+      units = λ v fold. coming-first v fold sheet count w (n .1);
+      walking = λ frames. record { pairs = n .0 .0; second = record { rising = omega arith; within = omega arith } };
+      many = omega (arith, n .0 .1);
+    }
+
+module _ (file : List ℕ) (d : DiphoneVoice) (fold : Bool) (sheet : List ℕ) (count : ℕ) (w : UnitWalk) where
+  abbrev with-half : Bool → List Unit
+  with-half t = withSecond t (w .second) (unitsComing (voiceOf file) fold sheet count (w .pairs))
+
+  pub steps-second : w .halfway ≡ true → UnitWalking (d .header .frames) sheet count w
+      → StepsUnit file d fold sheet count w (record { unit = w .second; walk = record { pairs = w .pairs; second = w .second; halfway = false } })
+  steps-second e u =
+      let h = many-by w true e in
+      record {
+        units = ap with-half e;
+        walking = record { pairs = u .pairs; second = u .second };
+        fewer = omega arith;
+        inside = u .second;
+      }
+
+  pub steps-first : w .halfway ≡ false → (s : PairStep) → StepsPair file d fold sheet count (w .pairs) s
+      → StepsUnit file d fold sheet count w (record { unit = s .units .first; walk = record { pairs = s .walk; second = s .units .second; halfway = true } })
+  steps-first e s t =
+      let h = many-by w false e in
+      let f = t .fewer in
+      record {
+        units = ap with-half e ∙ t .units;
+        walking = record { pairs = t .walking; second = t .second };
+        fewer = omega arith;
+        inside = t .first;
       }

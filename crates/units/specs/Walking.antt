@@ -17,7 +17,7 @@ use Rattle.units.specs.declared.UnitWalk.{UnitWalk}
 use Rattle.units.specs.declared.UnitStep.{UnitStep}
 use Rattle.units.specs.Asked.{Named}
 use Rattle.units.specs.Selecting.{foldedSegment, folded}
-use Rattle.units.specs.Units.{listed, Inside, unitsFrom}
+use Rattle.units.specs.Units.{listed, Inside, unitsFrom, unitsOf}
 
 abbrev pub listIn : {A : Type 0} → Got (List A) → List A
 listIn (fails r) = []
@@ -62,12 +62,20 @@ unitsLeft v fold sheet count w = withSecond (w .halfway) (w .second) (unitsComin
 abbrev pub manyLeft : UnitWalk → ℕ
 manyLeft w = pick (w .halfway) 1 0 + 2 * w .pairs .remaining
 
-pub record UnitWalking (d : DiphoneVoice) (sheet : List ℕ) (count : ℕ) (w : UnitWalk) : Type 0 where
+pub record UnitWalking (frames : ℕ) (sheet : List ℕ) (count : ℕ) (w : UnitWalk) : Type 0 where
   pub pairs : Walking sheet count (w .pairs)
-  pub second : Inside (d .header .frames) (w .second)
+  pub second : Inside frames (w .second)
+
+-- a walk from the first unit on has them all before it
+pub record StartsUnits (sheet : List ℕ) (count : ℕ) (w : UnitWalk) : Type 0 where
+  pub units : (v : Voice) (fold : Bool) → unitsOf v (folded fold (sheetOf sheet .segments)) ≡ unitsLeft v fold sheet count w
+  pub walking : (frames : ℕ) → UnitWalking frames sheet count w
+  pub many : manyLeft w + 2 ≡ 2 * count
+
+-- a step yields the first of them
 
 pub record StepsUnit (file : List ℕ) (d : DiphoneVoice) (fold : Bool) (sheet : List ℕ) (count : ℕ) (w : UnitWalk) (r : UnitStep) : Type 0 where
   pub units : unitsLeft (voiceOf file) fold sheet count w ≡ r .unit ∷ unitsLeft (voiceOf file) fold sheet count (r .walk)
-  pub walking : UnitWalking d sheet count (r .walk)
+  pub walking : UnitWalking (d .header .frames) sheet count (r .walk)
   pub fewer : manyLeft (r .walk) + 1 ≡ manyLeft w
   pub inside : Inside (d .header .frames) (r .unit)

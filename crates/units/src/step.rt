@@ -2,11 +2,10 @@
 // tested.
 ghost use mathlib.Core.Path.{_≡_};
 ghost use Prim.Native.Nat.{_<_};
-ghost use Rattle.voice.specs.Voice.{Voice};
-ghost use Rattle.sheet.specs.Sheet.{sheetOf};
+ghost use lib.Dec.{ltb};
 ghost use Rattle.sheet.specs.Places.{answerIn, sheetPlaces};
 ghost use Rattle.units.specs.Asked.{Searchable};
-ghost use Rattle.units.specs.Walking.{Walking, StepsPair, manyLeft, UnitWalking, StepsUnit};
+ghost use Rattle.units.specs.Walking.{Walking, StepsPair, manyLeft, UnitWalking, StartsUnits, StepsUnit};
 use super::PairStep;
 use super::PairWalk;
 use super::Unit;
@@ -46,5 +45,78 @@ pub fn next_units(
     PairStep {
         units: units,
         walk: after,
+    }
+}
+
+// The walk from the first unit on.
+pub fn first_unit(sheet: &[u8], places: Places) -> UnitWalk
+    requires { ⌜ (answerIn (sheetPlaces (now sheet)) ≡ SheetAnswer.Read places) × (0 < places .segments .count) ⌝ }
+    ensures { λ r. ⌜ StartsUnits (now (sheet .entry)) (places .segments .count) r ⌝ }
+{
+    UnitWalk {
+        pairs: super::walk::first_pair(sheet, places),
+        second: Unit {
+            first_period: 0,
+            last_period: 0,
+            target_end: 0,
+        },
+        halfway: false,
+    }
+}
+
+// Whether a unit is still to come.
+pub fn has_unit(walk: UnitWalk) -> bool
+    ensures { λ r. ⌜ r ≡ ltb 0 (manyLeft walk) ⌝ }
+{
+    if walk.halfway {
+        return true;
+    }
+    let pairs = walk.pairs;
+    0 < pairs.remaining
+}
+
+// The next unit.
+pub fn next_unit(
+    file: &[u8],
+    d: DiphoneVoice,
+    index: &[u8],
+    sorted: bool,
+    sheet: &[u8],
+    places: Places,
+    fold: bool,
+    walk: UnitWalk,
+) -> UnitStep
+    requires { ⌜
+        Searchable (now file) d (now index) sorted ×
+        ((answerIn (sheetPlaces (now sheet)) ≡ SheetAnswer.Read places) ×
+        (UnitWalking (d .header .frames) (now sheet) (places .segments .count) walk × (0 < manyLeft walk)))
+        ⌝ }
+    ensures { λ r.
+        ⌜ StepsUnit (now (file .entry)) d fold (now (sheet .entry)) (places .segments .count) walk r ⌝ }
+{
+    let pairs = walk.pairs;
+    let second = walk.second;
+    if walk.halfway {
+        return UnitStep {
+            unit: second,
+            walk: UnitWalk {
+                pairs: pairs,
+                second: second,
+                halfway: false,
+            },
+        };
+    }
+    let step = next_units(file, d, index, sorted, sheet, places, fold, pairs);
+    let units = step.units;
+    let first = units.first;
+    let last = units.second;
+    let after = step.walk;
+    UnitStep {
+        unit: first,
+        walk: UnitWalk {
+            pairs: after,
+            second: last,
+            halfway: true,
+        },
     }
 }
