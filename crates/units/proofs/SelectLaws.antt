@@ -33,7 +33,7 @@ use Rattle.opening.proofs.IndexLaws.{indexSpan, index-are, open-within, open-wh
 use Rattle.sheet.specs.declared.Segment.{Segment}
 use Rattle.sheet.specs.Sheet.{SegmentRead}
 use Rattle.sheet.specs.Followers.{nameOf}
-use Rattle.units.specs.Asked.{Searchable, Named}
+use Rattle.units.specs.Asked.{Named}
 use Rattle.units.specs.Selecting.{foldName, foldedName, foldSegment, foldedSegment, folded, inCluster, pairName, plainName, clusterName, firstTried, orElse, plainEntry, entryOf}
 
 -- ---- folding, and the cluster rule
@@ -115,8 +115,8 @@ module _ (file : List ℕ) (d : DiphoneVoice) (o : IsOpen file d) (bs : List ℕ
   unfolding sorted
   first-at e = e ∙ ap (λ (ps : List Placed). periodsOf (firstOf (sort ps))) entries-at
 
-  pub filled-at : {index : List ℕ} {sorted : Bool} → Searchable file d index sorted → sorted ≡ true → Filled bs (d .count) (d .entries .at) index
-  filled-at {index} s e = subst (λ (l : List ℕ). Filled l (d .count) (d .entries .at) index) (sym b) (s .filled e)
+  pub filled-at : {index : List ℕ} → Filled (bytesAt file (d .entries)) (d .count) (d .entries .at) index → Filled bs (d .count) (d .entries .at) index
+  filled-at {index} f = subst (λ (l : List ℕ). Filled l (d .count) (d .entries .at) index) (sym b) f
 
 -- ---- the names tried in turn
 

@@ -5,7 +5,9 @@ pub mod select;
 pub mod step;
 pub mod walk;
 
+use sheet::Places;
 use sheet::Segment;
+use voice::DiphoneVoice;
 
 // A unit: its first pitch period, the period after its last, and where it should end, in output
 // samples.
@@ -52,4 +54,13 @@ pub struct UnitWalk {
 pub struct UnitStep {
     pub unit: Unit,
     pub walk: UnitWalk,
+}
+
+// What units are selected by: an open voice, whether its sorted index is used, where the sheet has
+// its segments, and whether `ah` is folded.
+pub struct Selection {
+    pub voice: DiphoneVoice,
+    pub sorted: bool,
+    pub places: Places,
+    pub fold: bool,
 }

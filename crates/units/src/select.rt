@@ -10,13 +10,13 @@ ghost use Rattle.sheet.specs.Places.{answerIn, sheetPlaces};
 ghost use Rattle.units.specs.Asked.{Searchable, Named};
 ghost use Rattle.units.specs.Selecting as selecting;
 ghost use Rattle.units.specs.Selecting.{foldedName};
+use super::Selection;
 use index::EntryPeriods;
 use index::FoundEntry;
 use phoneset::Vc;
 use sheet::Places;
 use sheet::Segment;
 use sheet::SheetAnswer;
-use voice::DiphoneVoice;
 
 // Whether a phone is no vowel and its follower's `vc` is `-`. Folding changes neither.
 fn in_cluster(sheet: &[u8], places: Places, left: Segment) -> bool
@@ -36,115 +36,102 @@ fn in_cluster(sheet: &[u8], places: Places, left: Segment) -> bool
 }
 
 // What the voice has under a name: by the sorted index, or in file order without it.
-fn find_name(file: &[u8], d: DiphoneVoice, index: &[u8], sorted: bool, name: &[u8]) -> FoundEntry
-    requires { ⌜ Searchable (now file) d (now index) sorted ⌝ }
+fn find_name(file: &[u8], index: &[u8], by: Selection, name: &[u8]) -> FoundEntry
+    requires { ⌜ Searchable (now file) (now index) by ⌝ }
     ensures { λ r. ⌜ r ≡ foundOf (voices.lookup (now (name .entry)) (voices.voiceOf (now (file .entry)) .entries)) ⌝ }
 {
-    let entries = voice::sections::bytes_at(file, d.entries);
-    if sorted {
-        return index::find(entries, d.count, d.entries.at, index, name);
+    let entries = voice::sections::bytes_at(file, by.voice.entries);
+    if by.sorted {
+        return index::find(entries, by.voice.count, by.voice.entries.at, index, name);
     }
-    index::lookup(entries, d.count, name)
+    index::lookup(entries, by.voice.count, name)
 }
 
 // The sorted first entry.
-fn first_entry(file: &[u8], d: DiphoneVoice, index: &[u8], sorted: bool) -> EntryPeriods
-    requires { ⌜ Searchable (now file) d (now index) sorted ⌝ }
+fn first_entry(file: &[u8], index: &[u8], by: Selection) -> EntryPeriods
+    requires { ⌜ Searchable (now file) (now index) by ⌝ }
     ensures { λ r. ⌜ r ≡ periodsOf (firstOf (voices.sorted (voices.voiceOf (now (file .entry))))) ⌝ }
 {
-    let entries = voice::sections::bytes_at(file, d.entries);
-    if sorted {
-        return index::first_sorted(entries, d.count, d.entries.at, index);
+    let entries = voice::sections::bytes_at(file, by.voice.entries);
+    if by.sorted {
+        return index::first_sorted(entries, by.voice.count, by.voice.entries.at, index);
     }
-    index::smallest(entries, d.count)
+    index::smallest(entries, by.voice.count)
 }
 
 // What the voice has under the name of a pair, which is folded where fold is on.
 fn find_pair(
     file: &[u8],
-    d: DiphoneVoice,
     index: &[u8],
-    sorted: bool,
+    by: Selection,
     left: &[u8],
     right: &[u8],
     cluster: bool,
-    fold: bool,
 ) -> FoundEntry
     requires { ⌜
-        Searchable (now file) d (now index) sorted × ((length (now left) ≤ 32) × (length (now right) ≤ 32))
+        Searchable (now file) (now index) by × ((length (now left) ≤ 32) × (length (now right) ≤ 32))
         ⌝ }
     ensures { λ r.
         ⌜
         r ≡ foundOf
         (voices.lookup
-        (selecting.pairName cluster (foldedName fold (now (left .entry))) (foldedName fold (now (right .entry))))
+        (selecting.pairName cluster (foldedName (by .fold) (now (left .entry))) (foldedName (by .fold) (now (right .entry))))
         (voices.voiceOf (now (file .entry)) .entries))
         ⌝ }
 {
     let mut name = [0u8; 67];
-    let len = super::names::put_pair(left, right, cluster, fold, &mut name);
-    find_name(file, d, index, sorted, &name[..len])
+    let len = super::names::put_pair(left, right, cluster, by.fold, &mut name);
+    find_name(file, index, by, &name[..len])
 }
 
 // The entry of a pair that is no cluster, or whose cluster the voice has not.
-fn select_plain(
-    file: &[u8],
-    d: DiphoneVoice,
-    index: &[u8],
-    sorted: bool,
-    left: &[u8],
-    right: &[u8],
-    fold: bool,
-) -> EntryPeriods
+fn select_plain(file: &[u8], index: &[u8], by: Selection, left: &[u8], right: &[u8]) -> EntryPeriods
     requires { ⌜
-        Searchable (now file) d (now index) sorted × ((length (now left) ≤ 32) × (length (now right) ≤ 32))
+        Searchable (now file) (now index) by × ((length (now left) ≤ 32) × (length (now right) ≤ 32))
         ⌝ }
     ensures { λ r.
         ⌜
         r ≡ periodsOf
-        (selecting.plainEntry (voices.voiceOf (now (file .entry))) (foldedName fold (now (left .entry))) (foldedName fold (now (right .entry))))
+        (selecting.plainEntry (voices.voiceOf (now (file .entry))) (foldedName (by .fold) (now (left .entry))) (foldedName (by .fold) (now (right .entry))))
         ⌝ }
 {
-    match find_pair(file, d, index, sorted, left, right, false, fold) {
+    match find_pair(file, index, by, left, right, false) {
         FoundEntry::Found(e) => e,
-        FoundEntry::Missing => first_entry(file, d, index, sorted),
+        FoundEntry::Missing => first_entry(file, index, by),
     }
 }
 
 // The entry of a pair of segments.
 pub fn select(
     file: &[u8],
-    d: DiphoneVoice,
     index: &[u8],
-    sorted: bool,
     sheet: &[u8],
-    places: Places,
+    by: Selection,
     left: Segment,
     right: Segment,
-    fold: bool,
 ) -> EntryPeriods
     requires { ⌜
-        Searchable (now file) d (now index) sorted ×
-        ((answerIn (sheetPlaces (now sheet)) ≡ SheetAnswer.Read places) ×
+        Searchable (now file) (now index) by ×
+        ((answerIn (sheetPlaces (now sheet)) ≡ SheetAnswer.Read (by .places)) ×
         (Named (now sheet) left × Named (now sheet) right))
         ⌝ }
     ensures { λ r.
         ⌜
         (r ≡ periodsOf
         (selecting.entryOf (voices.voiceOf (now (file .entry)))
-        (selecting.folded fold (sheetOf (now (sheet .entry)) .segments))
-        (selecting.foldedSegment fold (segmentRead (now (sheet .entry)) left))
-        (selecting.foldedSegment fold (segmentRead (now (sheet .entry)) right)))) ×
-        (r .start + r .first + r .second ≤ d .header .frames)
+        (selecting.folded (by .fold) (sheetOf (now (sheet .entry)) .segments))
+        (selecting.foldedSegment (by .fold) (segmentRead (now (sheet .entry)) left))
+        (selecting.foldedSegment (by .fold) (segmentRead (now (sheet .entry)) right)))) ×
+        (r .start + r .first + r .second ≤ by .voice .header .frames)
         ⌝ }
 {
     let left_name = voice::sections::bytes_at(sheet, left.name);
     let right_name = voice::sections::bytes_at(sheet, right.name);
-    if !in_cluster(sheet, places, left) {
-        return select_plain(file, d, index, sorted, left_name, right_name, fold);
+    if !in_cluster(sheet, by.places, left) {
+        return select_plain(file, index, by, left_name, right_name);
     }
-    match find_pair(file, d, index, sorted, left_name, right_name, true, fold) {
+    match find_pair(file, index, by, left_name, right_name, true) {
         FoundEntry::Found(e) => e,
-        FoundEntry::Missing => select_plain(file, d, index, sorted, left_name, right_name, fold),
+        FoundEntry::Missing => select_plain(file, index, by, left_name, right_name),
     }
 }

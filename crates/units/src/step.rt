@@ -8,40 +8,37 @@ ghost use Rattle.units.specs.Asked.{Searchable};
 ghost use Rattle.units.specs.Walking.{Walking, StepsPair, manyLeft, UnitWalking, StartsUnits, StepsUnit};
 use super::PairStep;
 use super::PairWalk;
+use super::Selection;
 use super::Unit;
 use super::UnitStep;
 use super::UnitWalk;
 use sheet::Places;
 use sheet::SheetAnswer;
-use voice::DiphoneVoice;
 
 // The units of the next pair.
 pub fn next_units(
     file: &[u8],
-    d: DiphoneVoice,
     index: &[u8],
-    sorted: bool,
     sheet: &[u8],
-    places: Places,
-    fold: bool,
+    by: Selection,
     walk: PairWalk,
 ) -> PairStep
     requires { ⌜
-        Searchable (now file) d (now index) sorted ×
-        ((answerIn (sheetPlaces (now sheet)) ≡ SheetAnswer.Read places) ×
-        (Walking (now sheet) (places .segments .count) walk × (0 < walk .remaining)))
+        Searchable (now file) (now index) by ×
+        ((answerIn (sheetPlaces (now sheet)) ≡ SheetAnswer.Read (by .places)) ×
+        (Walking (now sheet) (by .places .segments .count) walk × (0 < walk .remaining)))
         ⌝ }
     ensures { λ r.
-        ⌜ StepsPair (now (file .entry)) d fold (now (sheet .entry)) (places .segments .count) walk r ⌝ }
+        ⌜ StepsPair (now (file .entry)) (by .voice) (by .fold) (now (sheet .entry)) (by .places .segments .count) walk r ⌝ }
 {
-    let segments = places.segments;
+    let segments = by.places.segments;
     let after = super::walk::next_pair(sheet, segments.count, walk);
     let left = walk.left;
     let right = after.left;
-    let e = super::select::select(file, d, index, sorted, sheet, places, left, right, fold);
+    let e = super::select::select(file, index, sheet, by, left, right);
     let from = left.end;
     let to = right.end;
-    let units = super::ends::unit_pair(d.header.rate, e, from, to);
+    let units = super::ends::unit_pair(by.voice.header.rate, e, from, to);
     PairStep {
         units: units,
         walk: after,
@@ -76,23 +73,14 @@ pub fn has_unit(walk: UnitWalk) -> bool
 }
 
 // The next unit.
-pub fn next_unit(
-    file: &[u8],
-    d: DiphoneVoice,
-    index: &[u8],
-    sorted: bool,
-    sheet: &[u8],
-    places: Places,
-    fold: bool,
-    walk: UnitWalk,
-) -> UnitStep
+pub fn next_unit(file: &[u8], index: &[u8], sheet: &[u8], by: Selection, walk: UnitWalk) -> UnitStep
     requires { ⌜
-        Searchable (now file) d (now index) sorted ×
-        ((answerIn (sheetPlaces (now sheet)) ≡ SheetAnswer.Read places) ×
-        (UnitWalking (d .header .frames) (now sheet) (places .segments .count) walk × (0 < manyLeft walk)))
+        Searchable (now file) (now index) by ×
+        ((answerIn (sheetPlaces (now sheet)) ≡ SheetAnswer.Read (by .places)) ×
+        (UnitWalking (by .voice .header .frames) (now sheet) (by .places .segments .count) walk × (0 < manyLeft walk)))
         ⌝ }
     ensures { λ r.
-        ⌜ StepsUnit (now (file .entry)) d fold (now (sheet .entry)) (places .segments .count) walk r ⌝ }
+        ⌜ StepsUnit (now (file .entry)) (by .voice) (by .fold) (now (sheet .entry)) (by .places .segments .count) walk r ⌝ }
 {
     let pairs = walk.pairs;
     let second = walk.second;
@@ -106,7 +94,7 @@ pub fn next_unit(
             },
         };
     }
-    let step = next_units(file, d, index, sorted, sheet, places, fold, pairs);
+    let step = next_units(file, index, sheet, by, pairs);
     let units = step.units;
     let first = units.first;
     let last = units.second;

@@ -27,7 +27,7 @@ returns c =
     let k = c .before .before in
     let a = k .before .before .before .before .before .before in
     let s = a .args .sheet .now in
-    selected-plain (a .args .file .now) (a .args .d) (a .pre .0 .opened) (a .args .fold) (sheetOf s .segments) (segmentRead s (a .args .left)) (segmentRead s (a .args .right)) _ _ (k .before .before .bytes-at .ensures) (k .before .bytes-at2 .ensures) _ (k .in-cluster .ensures) (not-true _ (c .before .if1 .taken)) (c .select-plain .ensures)
+    selected-plain (a .args .file .now) (a .args .by .voice) (a .pre .0 .opened) (a .args .by .fold) (sheetOf s .segments) (segmentRead s (a .args .left)) (segmentRead s (a .args .right)) _ _ (k .before .before .bytes-at .ensures) (k .before .bytes-at2 .ensures) _ (k .in-cluster .ensures) (not-true _ (c .before .if1 .taken)) (c .select-plain .ensures)
 
 find-pair-requires : tie.Need-find-pair-requires
 find-pair-requires c κs =
@@ -52,14 +52,14 @@ returns-2 c =
     let k = c .before .before .before .before .before in
     let a = k .before .before .before .before .before .before in
     let s = a .args .sheet .now in
-    selected-found (a .args .file .now) (a .args .d) (a .pre .0 .opened) (a .args .fold) (sheetOf s .segments) (segmentRead s (a .args .left)) (segmentRead s (a .args .right)) _ _ (k .before .before .bytes-at .ensures) (k .before .bytes-at2 .ensures) _ (k .in-cluster .ensures) (not-false _ (c .before .before .before .before .if1 .left)) (sym (c .before .before .before .find-pair .ensures) ∙ c .before .e .given .1)
+    selected-found (a .args .file .now) (a .args .by .voice) (a .pre .0 .opened) (a .args .by .fold) (sheetOf s .segments) (segmentRead s (a .args .left)) (segmentRead s (a .args .right)) _ _ (k .before .before .bytes-at .ensures) (k .before .bytes-at2 .ensures) _ (k .in-cluster .ensures) (not-false _ (c .before .before .before .before .if1 .left)) (sym (c .before .before .before .find-pair .ensures) ∙ c .before .e .given .1)
 
 returns-3 : tie.Need-returns-3
 returns-3 c =
     let k = c .before .before .before .before .before in
     let a = k .before .before .before .before .before .before in
     let s = a .args .sheet .now in
-    selected-missing (a .args .file .now) (a .args .d) (a .pre .0 .opened) (a .args .fold) (sheetOf s .segments) (segmentRead s (a .args .left)) (segmentRead s (a .args .right)) _ _ (k .before .before .bytes-at .ensures) (k .before .bytes-at2 .ensures) _ (k .in-cluster .ensures) (not-false _ (c .before .before .before .before .if1 .left)) (sym (c .before .before .before .find-pair .ensures) ∙ c .before .enum-told .given .1) (c .select-plain2 .ensures)
+    selected-missing (a .args .file .now) (a .args .by .voice) (a .pre .0 .opened) (a .args .by .fold) (sheetOf s .segments) (segmentRead s (a .args .left)) (segmentRead s (a .args .right)) _ _ (k .before .before .bytes-at .ensures) (k .before .bytes-at2 .ensures) _ (k .in-cluster .ensures) (not-false _ (c .before .before .before .before .if1 .left)) (sym (c .before .before .before .find-pair .ensures) ∙ c .before .enum-told .given .1) (c .select-plain2 .ensures)
 
 pub select-spec : {M : Type 1} → statement M
 select-spec =

@@ -22,13 +22,13 @@ first-entry-requires c κs = search needs
 returns : tie.Need-returns
 returns c =
     let a = c .before .before .before .before .before .before .before .before .args in
-    sym (plain-found (voiceOf (a .file .now)) (foldedName (a .fold) (a .left .now)) (foldedName (a .fold) (a .right .now)) _ (sym (c .before .before .before .find-pair .ensures) ∙ c .before .e .given .1))
+    sym (plain-found (voiceOf (a .file .now)) (foldedName (a .by .fold) (a .left .now)) (foldedName (a .by .fold) (a .right .now)) _ (sym (c .before .before .before .find-pair .ensures) ∙ c .before .e .given .1))
 
 returns-2 : tie.Need-returns-2
 returns-2 c =
     let m = c .before in
     let a = m .before .before .before .before .before .before .before .args in
-    c .first-entry .ensures ∙ ap (λ (x : Entry). periodsOf x) (sym (plain-missing (voiceOf (a .file .now)) (foldedName (a .fold) (a .left .now)) (foldedName (a .fold) (a .right .now)) (sym (m .before .before .find-pair .ensures) ∙ m .enum-told .given .1)))
+    c .first-entry .ensures ∙ ap (λ (x : Entry). periodsOf x) (sym (plain-missing (voiceOf (a .file .now)) (foldedName (a .by .fold) (a .left .now)) (foldedName (a .by .fold) (a .right .now)) (sym (m .before .before .find-pair .ensures) ∙ m .enum-told .given .1)))
 
 pub select-plain-spec : {M : Type 1} → statement M
 select-plain-spec =

@@ -13,13 +13,13 @@ select-requires c κs = search needs
 unit-pair-requires : tie.Need-unit-pair-requires
 unit-pair-requires c κs =
     let a = c .before .before .before .before .before .before .before .before in
-    let f = few-frames (a .args .file .now) (a .args .d) (a .pre .0 .opened) (omega (arith, a .good .0 .1)) in
+    let f = few-frames (a .args .file .now) (a .args .by .voice) (a .pre .0 .opened) (omega (arith, a .good .0 .1)) in
     omega (arith, f, c .select .ensures .1)
 
 returns : tie.Need-returns
 returns c =
     let a = c .before .before .before .before .before .before .before .before .before in
-    steps-pair (a .args .file .now) (a .args .d) (a .pre .0 .opened) (a .args .fold) (a .args .sheet .now) (a .args .places .segments .count) (a .args .walk) _ (c .before .before .before .before .next-pair .ensures) _ (c .before .select .ensures) _ (c .unit-pair .ensures)
+    steps-pair (a .args .file .now) (a .args .by .voice) (a .pre .0 .opened) (a .args .by .fold) (a .args .sheet .now) (a .args .by .places .segments .count) (a .args .walk) _ (c .before .before .before .before .next-pair .ensures) _ (c .before .select .ensures) _ (c .unit-pair .ensures)
 
 pub next-units-spec : {M : Type 1} → statement M
 next-units-spec =
