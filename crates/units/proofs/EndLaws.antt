@@ -1,12 +1,10 @@
 -- The refusal of target ends, pair by pair.
-use mathlib.Core.Path.{_≡_, refl, sym, ap, subst, _∙_}
+use mathlib.Core.Path.{_≡_, refl, sym, ap, _∙_}
 use mathlib.Core.Bool.{Bool, true, false, _&&_}
-use mathlib.Core.List.{List, [], _∷_, map}
+use mathlib.Core.List.{List, [], _∷_}
 use mathlib.Core.Option.{Option, none, some}
-use Prim.Native.Nat.{ℕ, zero, suc}
-use native.Mathlib.Omega.{arith}
+use Prim.Native.Nat.{ℕ}
 use lib.Dec.{leb}
-use lib.Ieee.{Float}
 use Rattle.base.specs.Choice.{pick}
 use Rattle.refusal.specs.declared.Refusal.{Refusal}
 use Rattle.refusal.specs.declared.Refusal.the-variants.{PastLimit}
@@ -18,9 +16,8 @@ use Rattle.sheet.specs.declared.Places.{Places}
 use Rattle.sheet.specs.declared.SheetAnswer.the-variants.{Read}
 use Rattle.sheet.proofs.WalkLaws.{ahead-none}
 use Rattle.sheet.proofs.ReadLaws.{sheet-ahead}
-use Rattle.units.specs.declared.Unit.{Unit}
 use Rattle.units.specs.declared.PairWalk.{PairWalk}
-use Rattle.units.specs.Selecting.{foldedSegment, folded, entryOf}
+use Rattle.units.specs.Selecting.{foldedSegment, folded}
 use Rattle.units.specs.Units.{limit, endsOf, endsFit, unitsOfPair, unitsFrom, unitsAll, unitsOf, endRefusal}
 use Rattle.units.specs.Walking.{coming}
 

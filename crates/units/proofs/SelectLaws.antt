@@ -1,15 +1,13 @@
 -- The entry of a pair: the cluster rule, an open voice's entries, and the names tried in turn.
 use mathlib.Core.Path.{_≡_, refl, sym, ap, subst, _∙_}
 use mathlib.Core.Bool.{Bool, true, false, _&&_, not, true≢false}
-use mathlib.Core.List.{List, [], _∷_, map}
+use mathlib.Core.List.{List, [], _∷_}
 use mathlib.Core.Option.{Option, none, some}
 use Prim.Native.Nat.{ℕ, zero, suc, _+_, _≤_}
 use native.Mathlib.Omega.{arith}
-use borrow.Author.Tests.{eq-eqb}
 use lib.Dec.{eqb}
 use lib.ListN.{length}
 use Rattle.base.specs.Choice.{pick}
-use Rattle.base.specs.Lists.{every}
 use Rattle.base.specs.Text.{ascii}
 use Rattle.base.proofs.ListLaws.{every-at, length-part}
 use Rattle.container.specs.Sections.{bytesAt}
@@ -20,7 +18,7 @@ use Rattle.phoneset.specs.Phones.{vowels, vc, isVowel, isPlus, isMinus}
 use Rattle.voice.specs.declared.DiphoneVoice.{DiphoneVoice}
 use Rattle.voice.specs.declared.VoiceHeader.{VoiceHeader}
 use Rattle.voice.specs.Voice.{Entry, Placed, Voice, voiceOf, entriesFrom, lookup, sort, sorted}
-use Rattle.voice.specs.Opening.{IsOpen, endPeriod, withinFrames, distinct, isEmpty}
+use Rattle.voice.specs.Opening.{IsOpen, endPeriod, distinct}
 use Rattle.voice.proofs.OpeningLaws.{passed, opens}
 use Rattle.voice.proofs.TableLaws.{header-is}
 use Rattle.voice.proofs.EntryLaws.{lookup-finds, stands-within}
@@ -29,12 +27,12 @@ use Rattle.index.specs.declared.FoundEntry.{FoundEntry}
 use Rattle.index.specs.declared.FoundEntry.the-variants.{Found, Missing}
 use Rattle.index.specs.Index.{Filled, periodsOf, foundOf, firstOf}
 use Rattle.index.proofs.FilledLaws.{empty-count, first-within}
-use Rattle.opening.proofs.IndexLaws.{indexSpan, index-are, open-within, open-whole, entries-are}
+use Rattle.opening.proofs.IndexLaws.{indexSpan, index-are, open-whole, entries-are}
 use Rattle.sheet.specs.declared.Segment.{Segment}
 use Rattle.sheet.specs.Sheet.{SegmentRead}
 use Rattle.sheet.specs.Followers.{nameOf}
 use Rattle.units.specs.Asked.{Named}
-use Rattle.units.specs.Selecting.{foldName, foldedName, foldSegment, foldedSegment, folded, inCluster, pairName, plainName, clusterName, firstTried, orElse, plainEntry, entryOf}
+use Rattle.units.specs.Selecting.{foldName, foldedName, foldedSegment, folded, inCluster, pairName, plainName, clusterName, firstTried, orElse, plainEntry, entryOf}
 
 -- ---- folding, and the cluster rule
 

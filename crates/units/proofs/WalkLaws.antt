@@ -1,15 +1,15 @@
 -- The walk over a sheet's segments, and the units that are still to come.
 use mathlib.Core.Path.{_≡_, refl, sym, ap, subst, _∙_}
-use mathlib.Core.Bool.{Bool, true, false, _||_, not, true≢false}
-use mathlib.Core.List.{List, [], _∷_}
+use mathlib.Core.Bool.{Bool, true, false, _||_, true≢false}
+use mathlib.Core.List.{List, _∷_}
 use Prim.Native.Nat.{ℕ, _+_, _-_, _≤_, _<_}
 use native.Mathlib.Omega.{arith}
 use borrow.Author.Tests.{ltb-false}
 use lib.Dec.{ltb}
 use lib.ListN.{length, take, drop, length-take}
 use Rattle.base.proofs.ListLaws.{length-part}
-use Rattle.sheet.specs.Sheet.{SegmentRead, Got, fails, gets, printable, name, segment, repeated, sheetOf}
-use Rattle.sheet.specs.Answers.{reads, bytesAt, segmentRead, SegmentSaid}
+use Rattle.sheet.specs.Sheet.{SegmentRead, Got, fails, gets, name, segment, sheetOf}
+use Rattle.sheet.specs.Answers.{reads, segmentRead, SegmentSaid}
 use Rattle.sheet.specs.Places.{isRead, answerIn, sheetPlaces}
 use Rattle.sheet.specs.declared.Segment.{Segment}
 use Rattle.sheet.specs.declared.Places.{Places}

@@ -1,10 +1,10 @@
-use mathlib.Core.Path.{_≡_, refl, sym, ap, _∙_}
+use mathlib.Core.Path.{_≡_, refl, ap, _∙_}
 use mathlib.Core.List.{List, _++_, append-assoc}
 use Prim.Native.Nat.{ℕ, _+_}
 use native.Mathlib.Omega.{arith}
 use lib.ListN.{length, length-append}
 use Rattle.base.specs.Buffers.{over}
-use Rattle.units.specs.Selecting.{foldedName, joint, pairName}
+use Rattle.units.specs.Selecting.{foldedName, joint}
 use Rattle.units.proofs.NameLaws.{length-folded-name, length-pair, stored-after}
 use borrow.Author.Needs.{needs}
 use Rattle.units.proofs.names.put_pair.Statement.{statement}

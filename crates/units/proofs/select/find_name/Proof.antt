@@ -1,4 +1,3 @@
-use mathlib.Core.Path.{_∙_}
 use Rattle.opening.proofs.IndexLaws.{open-within}
 use Rattle.units.proofs.SelectLaws.{whole-at, distinct-at, found-at, filled-at}
 use Rattle.units.proofs.select.find_name.Statement.{statement}
