@@ -1,7 +1,7 @@
 -- One step over the units that are still to come.
 use mathlib.Core.Path.{_≡_, refl, sym, ap, subst, _∙_}
 use mathlib.Core.Bool.{Bool, true, false}
-use mathlib.Core.List.{List, _∷_, _++_}
+use mathlib.Core.List.{List, [], _∷_, _++_}
 use Prim.Native.Nat.{ℕ, _+_, _*_, _≤_, _<_, _^_}
 use borrow.Author.Tests.{lt-ltb, le-ltb}
 use lib.Dec.{ltb}
@@ -18,7 +18,7 @@ use Rattle.voice.proofs.TableLaws.{header-is}
 use Rattle.voice.proofs.OpenLaws.{offset-within}
 use Rattle.index.specs.declared.EntryPeriods.{EntryPeriods}
 use Rattle.index.specs.Index.{periodsOf}
-use Rattle.sheet.specs.Sheet.{SegmentRead, asF32, sheetOf}
+use Rattle.sheet.specs.Sheet.{SegmentRead, asF32, repeated, sheetOf}
 use Rattle.sheet.specs.Answers.{segmentRead}
 use Rattle.units.specs.declared.Unit.{Unit}
 use Rattle.units.specs.declared.UnitPair.{UnitPair}
@@ -27,8 +27,10 @@ use Rattle.units.specs.declared.PairStep.{PairStep}
 use Rattle.units.specs.declared.UnitWalk.{UnitWalk}
 use Rattle.units.specs.Selecting.{foldedSegment, folded, entryOf}
 use Rattle.units.specs.Units.{endsOf, pairOf, listed, Inside, unitsOfPair, unitsFrom, unitsAll, unitsOf}
-use Rattle.units.specs.Walking.{coming, Walking, unitsComing, StepsPair, withSecond, manyLeft, UnitWalking, StartsUnits, StepsUnit}
-use Rattle.units.proofs.EndLaws.{folded-cons}
+use Rattle.units.specs.Walking.{listIn, segmentsAt, coming, Walking, unitsComing, StepsPair, withSecond, unitsLeft, manyLeft, UnitWalking, StartsUnits, StepsUnit}
+use Rattle.units.proofs.UnitLaws.{Within, nil, pair-within}
+use Rattle.units.proofs.SelectLaws.{selected-within}
+use Rattle.units.proofs.EndLaws.{folded-cons, folded-nil}
 
 -- an open voice has few frames
 pub few-frames : (file : List ℕ) (d : DiphoneVoice) → IsOpen file d → length file < 2 ^ 63 → d .header .frames < 2 ^ 63
@@ -45,6 +47,14 @@ unfolding unitsAll
 coming-first v fold sheet count w e =
     ap (unitsAll v (folded fold (sheetOf sheet .segments))) (ap (folded fold) e ∙ folded-cons fold (segmentRead sheet (w .left)) (coming sheet count w))
 
+-- no segment is to come, and no unit
+pub coming-none : (v : Voice) (fold : Bool) (sheet : List ℕ) (count : ℕ) (w : PairWalk) → w .remaining ≡ 0 → unitsComing v fold sheet count w ≡ []
+unfolding unitsFrom repeated
+coming-none v fold sheet count w z =
+    let left = foldedSegment fold (segmentRead sheet (w .left)) in
+    ap (λ (n : ℕ). unitsFrom v (folded fold (sheetOf sheet .segments)) left (folded fold (listIn (segmentsAt sheet count n (w .next))))) z
+    ∙ ap (unitsFrom v (folded fold (sheetOf sheet .segments)) left) (folded-nil fold)
+
 module _ (v : Voice) (fold : Bool) (sheet : List ℕ) (count : ℕ) (w x : PairWalk) (e : coming sheet count w ≡ segmentRead sheet (x .left) ∷ coming sheet count x) where
   abbrev ss : List SegmentRead
   ss = folded fold (sheetOf sheet .segments)
@@ -55,6 +65,22 @@ module _ (v : Voice) (fold : Bool) (sheet : List ℕ) (count : ℕ) (w x : PairW
   pub coming-next : unitsComing v fold sheet count w ≡ unitsOfPair (v .header .rate) entry (asF32 (w .left .end)) (asF32 (x .left .end)) ++ unitsComing v fold sheet count x
   unfolding unitsFrom
   coming-next = ap (unitsFrom v ss (foldedSegment fold (segmentRead sheet (w .left)))) (ap (folded fold) e ∙ folded-cons fold (segmentRead sheet (x .left)) (coming sheet count x))
+
+-- the periods of every unit are the open voice's
+module _ (file : List ℕ) (d : DiphoneVoice) (o : IsOpen file d) (ss : List SegmentRead) where
+  from-inside : (left : SegmentRead) (rs : List SegmentRead) → Within (d .header .frames) (unitsFrom (voiceOf file) ss left rs)
+  unfolding unitsFrom
+  from-inside left [] = nil
+  from-inside left (right ∷ rs) =
+      pair-within (d .header .frames) (voiceOf file .header .rate) (entryOf (voiceOf file) ss left right) (asF32 (left .end)) (asF32 (right .end)) _ (selected-within file d o ss left right) (from-inside right rs)
+
+  all-inside : (rs : List SegmentRead) → Within (d .header .frames) (unitsAll (voiceOf file) ss rs)
+  unfolding unitsAll
+  all-inside [] = nil
+  all-inside (s ∷ rs) = from-inside s rs
+
+  pub units-inside : Within (d .header .frames) (unitsOf (voiceOf file) ss)
+  units-inside = all-inside ss
 
 pair-inside : (n : ℕ) (e : EntryPeriods) (l r : ℕ) → e .start + e .first + e .second ≤ n → let p = pairOf e (record { first = l; second = r }) in Inside n (p .first) × Inside n (p .second)
 pair-inside n e l r h = (record { rising = omega arith; within = omega arith }, record { rising = omega arith; within = omega arith })
@@ -100,6 +126,13 @@ some-pair w e =
 -- where no unit waits, a pair does
 pub pair-left : (w : UnitWalk) → w .halfway ≡ false → 0 < manyLeft w → 0 < w .pairs .remaining
 pair-left w e l = let h = many-by w false e in omega arith
+
+pub left-none : (v : Voice) (fold : Bool) (sheet : List ℕ) (count : ℕ) (w : UnitWalk) → manyLeft w ≡ 0 → unitsLeft v fold sheet count w ≡ []
+left-none v fold sheet count w z = by (w .halfway) refl
+  where
+    by : (t : Bool) → w .halfway ≡ t → withSecond t (w .second) (unitsComing v fold sheet count (w .pairs)) ≡ []
+    by false e = coming-none v fold sheet count (w .pairs) (omega arith)
+    by true e = let h = many-by w true e in absurd (omega arith)
 
 pub starts-units : (sheet : List ℕ) (count : ℕ) (w : PairWalk)
     → (Walking sheet count w × (w .remaining + 1 ≡ count)) × (sheetOf sheet .segments ≡ segmentRead sheet (w .left) ∷ coming sheet count w)

@@ -32,7 +32,7 @@ pub data Within (n : ℕ) : List Unit → Type 0 where
 pair-same : (r r′ : ℕ) (e e′ : Entry) (x y : Float) (q q′ : List Unit) → r ≡ r′ → e ≡ e′ → q ≡ q′ → unitsOfPair r e x y ++ q ≡ unitsOfPair r′ e′ x y ++ q′
 pair-same r r′ e e′ x y q q′ a b c = cc
 
-pair-within : (n r : ℕ) (e : Entry) (x y : Float) (us : List Unit) → endPeriod e ≤ n → Within n us → Within n (unitsOfPair r e x y ++ us)
+pub pair-within : (n r : ℕ) (e : Entry) (x y : Float) (us : List Unit) → endPeriod e ≤ n → Within n us → Within n (unitsOfPair r e x y ++ us)
 unfolding unitsOfPair
 pair-within n r e x y us l i =
     let a : e .start ≤ e .start + e .first = omega arith in

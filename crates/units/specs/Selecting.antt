@@ -44,7 +44,7 @@ clusterName left right = left ++ (ascii "_-_" ++ right)
 abbrev pub plainName : List ℕ → List ℕ → List ℕ
 plainName left right = left ++ (ascii "-" ++ right)
 
--- the one or the other
+-- the one for a cluster, else the other
 abbrev pub joint : Bool → List ℕ
 joint cluster = pick cluster (ascii "_-_") (ascii "-")
 

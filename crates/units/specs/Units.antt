@@ -11,6 +11,7 @@ use Rattle.refusal.specs.declared.Refusal.{Refusal}
 use Rattle.refusal.specs.declared.Refusal.the-variants.{PastLimit}
 use Rattle.voice.specs.Voice.{Entry, Voice}
 use Rattle.index.specs.declared.EntryPeriods.{EntryPeriods}
+use Rattle.index.specs.Index.{periodsOf}
 use Rattle.sheet.specs.Sheet.{SegmentRead, asF32}
 use Rattle.units.specs.declared.Unit.{Unit}
 use Rattle.units.specs.declared.UnitPair.{UnitPair}
@@ -25,18 +26,11 @@ samplesAt rate time = toUnsigned 64 (mul binary32 time (ofInt binary32 (pos rate
 unfoldable pub midway : Float → Float → Float
 midway left right = div binary32 (add binary32 left right) (fin false 1 (pos 1))
 
--- 'Halves are start to middle, middle to end. Target ends: left end × rate, and (left + right) / 2 × rate'
-unfoldable pub unitsOfPair : ℕ → Entry → Float → Float → List Unit
-unitsOfPair rate e left right =
-    let middle = e .start + e .first in
-    record { «first_period» = e .start; «last_period» = middle; «target_end» = samplesAt rate left }
-    ∷ record { «first_period» = middle; «last_period» = middle + e .second; «target_end» = samplesAt rate (midway left right) }
-    ∷ []
-
--- the target ends of a pair, and its units by the numbers of the entry
+-- 'Target ends, in f32: left end × rate, and (left + right) / 2 × rate'
 abbrev pub endsOf : ℕ → Float → Float → TargetEnds
 endsOf rate left right = record { first = samplesAt rate left; second = samplesAt rate (midway left right) }
 
+-- 'Halves are start to middle, middle to end'
 abbrev pub pairOf : EntryPeriods → TargetEnds → UnitPair
 pairOf e ends =
     let middle = e .start + e .first in
@@ -47,6 +41,9 @@ pairOf e ends =
 
 abbrev pub listed : UnitPair → List Unit
 listed p = p .first ∷ p .second ∷ []
+
+unfoldable pub unitsOfPair : ℕ → Entry → Float → Float → List Unit
+unitsOfPair rate e left right = listed (pairOf (periodsOf e) (endsOf rate left right))
 
 -- a unit's periods are among so many
 pub record Inside (frames : ℕ) (u : Unit) : Type 0 where

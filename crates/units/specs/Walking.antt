@@ -73,7 +73,6 @@ pub record StartsUnits (sheet : List ℕ) (count : ℕ) (w : UnitWalk) : Type 0 
   pub many : manyLeft w + 2 ≡ 2 * count
 
 -- a step yields the first of them
-
 pub record StepsUnit (file : List ℕ) (d : DiphoneVoice) (fold : Bool) (sheet : List ℕ) (count : ℕ) (w : UnitWalk) (r : UnitStep) : Type 0 where
   pub units : unitsLeft (voiceOf file) fold sheet count w ≡ r .unit ∷ unitsLeft (voiceOf file) fold sheet count (r .walk)
   pub walking : UnitWalking (d .header .frames) sheet count (r .walk)
