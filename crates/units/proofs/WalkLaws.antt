@@ -1,14 +1,16 @@
 -- The walk over a sheet's segments, and the units that are still to come.
 use mathlib.Core.Path.{_≡_, refl, sym, ap, subst, _∙_}
 use mathlib.Core.Bool.{Bool, true, false, _||_, true≢false}
-use mathlib.Core.List.{List, _∷_}
-use Prim.Native.Nat.{ℕ, _+_, _-_, _≤_, _<_}
+use mathlib.Core.List.{List, [], _∷_}
+use Prim.Native.Nat.{ℕ, zero, suc, _+_, _-_, _≤_, _<_}
 use native.Mathlib.Omega.{arith}
 use borrow.Author.Tests.{ltb-false}
 use lib.Dec.{ltb}
 use lib.ListN.{length, take, drop, length-take}
+use lib.Seq.{drop-drop}
 use Rattle.base.proofs.ListLaws.{length-part}
 use Rattle.sheet.specs.Sheet.{SegmentRead, Got, fails, gets, name, segment, sheetOf}
+use Rattle.sheet.specs.Followers.{nameOf}
 use Rattle.sheet.specs.Answers.{reads, segmentRead, SegmentSaid}
 use Rattle.sheet.specs.Places.{isRead, answerIn, sheetPlaces}
 use Rattle.sheet.specs.declared.Segment.{Segment}
@@ -18,8 +20,8 @@ use Rattle.sheet.proofs.SheetLaws.{came, formed}
 use Rattle.sheet.proofs.WalkLaws.{Ahead, ahead-some, ahead-step}
 use Rattle.sheet.proofs.ReadLaws.{sheet-ahead}
 use Rattle.units.specs.declared.PairWalk.{PairWalk}
-use Rattle.units.specs.Asked.{Named}
-use Rattle.units.specs.Walking.{listIn, segmentsAt, coming, Walking}
+use Rattle.units.specs.Asked.{Named, Numbered}
+use Rattle.units.specs.Walking.{listIn, segmentsAt, coming, Reached, Walking}
 
 -- ---- a segment that was read has a short name
 
@@ -68,7 +70,7 @@ module _ (sheet : List ℕ) (count n at : ℕ) (r : isRead (segmentsAt sheet cou
 
   pub walk-step : (s : Segment) (next : ℕ) → SegmentSaid sheet count (reads s next) (segment count (drop at sheet))
       → let w : PairWalk = record { left = s; next = next; remaining = n - 1 } in
-      (Walking sheet count w × (w .remaining + 1 ≡ n)) × (listIn (segmentsAt sheet count n at) ≡ segmentRead sheet s ∷ coming sheet count w)
+      (Reached sheet count w × (w .remaining + 1 ≡ n)) × (listIn (segmentsAt sheet count n at) ≡ segmentRead sheet s ∷ coming sheet count w)
   walk-step s next i =
       let t = ahead-step (segment count) sheet n at _ s next (λ z. omega arith) all-ahead i in
       let g = t .ahead .is in (
@@ -86,3 +88,42 @@ module _ (sheet : List ℕ) (p : Places) (e : answerIn (sheetPlaces sheet) ≡ R
 
   pub all-are : listIn all ≡ sheetOf sheet .segments
   all-are = ap listIn (sheet-ahead sheet p e .segments .is)
+
+-- ---- the walk's place among all segments
+
+-- one segment more is passed
+drop-next : {A : Type 0} (l : List A) (j : ℕ) (a : A) (r : List A) → drop j l ≡ a ∷ r → drop (j + 1) l ≡ r
+drop-next l j a r e = sym (drop-drop 1 j l) ∙ ap (drop 1) e
+
+name-at : (ss : List SegmentRead) (j : ℕ) (s : SegmentRead) (r : List SegmentRead) → drop j ss ≡ s ∷ r → nameOf ss (suc j) ≡ s .name
+unfolding nameOf
+name-at [] zero s r e = absurd (let z : _≡_ {A = ℕ} 0 1 = cc in omega arith)
+name-at [] (suc j) s r e = absurd (let z : _≡_ {A = ℕ} 0 1 = cc in omega arith)
+name-at (t ∷ ss) zero s r e = let h : t ≡ s = cc in ap (λ (x : SegmentRead). x .name) h
+name-at (t ∷ ss) (suc j) s r e = name-at ss j s r e
+
+module _ (sheet : List ℕ) (count : ℕ) where
+  abbrev Steps : PairWalk → ℕ → List SegmentRead → Type 0
+  Steps x n xs = (Reached sheet count x × (x .remaining + 1 ≡ n)) × (xs ≡ segmentRead sheet (x .left) ∷ coming sheet count x)
+
+  pub walking-first : (x : PairWalk) → Steps x count (sheetOf sheet .segments) → Walking sheet count x
+  walking-first x s =
+      let e : count - (x .remaining + 1) ≡ 0 = omega (arith, s .0 .1) in
+      record { reached = s .0 .0; fewer = omega (arith, s .0 .1); placed = ap (λ (j : ℕ). drop j (sheetOf sheet .segments)) e ∙ s .1 }
+
+  pub walking-next : (w x : PairWalk) → Walking sheet count w → Steps x (w .remaining) (coming sheet count w) → Walking sheet count x
+  walking-next w x k s =
+      let f = k .fewer in
+      let e : count - (x .remaining + 1) ≡ count - (w .remaining + 1) + 1 = omega (arith, s .0 .1) in
+      record {
+        reached = s .0 .0;
+        fewer = omega (arith, s .0 .1);
+        placed = ap (λ (j : ℕ). drop j (sheetOf sheet .segments)) e ∙ drop-next (sheetOf sheet .segments) (count - (w .remaining + 1)) _ _ (k .placed) ∙ s .1;
+      }
+
+  -- the number of the left segment
+  pub walking-number : (x : PairWalk) → Walking sheet count x → Numbered sheet (x .left) (count - x .remaining)
+  walking-number x k =
+      let f = k .fewer in
+      let e : count - x .remaining ≡ suc (count - (x .remaining + 1)) = omega arith in
+      sym (ap (nameOf (sheetOf sheet .segments)) e ∙ name-at (sheetOf sheet .segments) (count - (x .remaining + 1)) _ _ (k .placed))

@@ -2,7 +2,7 @@
 use mathlib.Core.Path.{_≡_}
 use mathlib.Core.Bool.{Bool, true, false}
 use mathlib.Core.List.{List, [], _∷_, _++_}
-use Prim.Native.Nat.{ℕ, _+_, _*_}
+use Prim.Native.Nat.{ℕ, _+_, _-_, _*_, _<_}
 use lib.ListN.{drop}
 use Rattle.base.specs.Choice.{pick}
 use Rattle.voice.specs.declared.DiphoneVoice.{DiphoneVoice}
@@ -32,9 +32,15 @@ abbrev pub coming : List ℕ → ℕ → PairWalk → List SegmentRead
 coming sheet count w = listIn (segmentsAt sheet count (w .remaining) (w .next))
 
 -- the reading of the sheet reached them
-pub record Walking (sheet : List ℕ) (count : ℕ) (w : PairWalk) : Type 0 where
+pub record Reached (sheet : List ℕ) (count : ℕ) (w : PairWalk) : Type 0 where
   pub named : Named sheet (w .left)
   pub ahead : isRead (segmentsAt sheet count (w .remaining) (w .next)) ≡ true
+
+-- they are the last of the sheet's
+pub record Walking (sheet : List ℕ) (count : ℕ) (w : PairWalk) : Type 0 where
+  pub reached : Reached sheet count w
+  pub fewer : w .remaining < count
+  pub placed : drop (count - (w .remaining + 1)) (sheetOf sheet .segments) ≡ segmentRead sheet (w .left) ∷ coming sheet count w
 
 -- the units that are still to come
 abbrev pub unitsComing : Voice → Bool → List ℕ → ℕ → PairWalk → List Unit

@@ -5,12 +5,14 @@ ghost use lib.ListN.{length};
 ghost use Rattle.voice.specs.Voice as voices;
 ghost use Rattle.index.specs.Index.{periodsOf, foundOf, firstOf};
 ghost use Rattle.sheet.specs.Sheet.{sheetOf};
-ghost use Rattle.sheet.specs.Answers.{segmentRead};
+ghost use Rattle.sheet.specs.Answers.{segmentRead, bytesAt};
+ghost use Rattle.sheet.specs.Followers.{nameOf};
 ghost use Rattle.sheet.specs.Places.{answerIn, sheetPlaces};
-ghost use Rattle.units.specs.Asked.{Searchable, Named};
+ghost use Rattle.units.specs.Asked.{Searchable, Named, Numbered};
 ghost use Rattle.units.specs.Selecting as selecting;
 ghost use Rattle.units.specs.Selecting.{foldedName};
 use super::Selection;
+use base::Span;
 use index::EntryPeriods;
 use index::FoundEntry;
 use phoneset::Vc;
@@ -18,16 +20,44 @@ use sheet::Places;
 use sheet::Segment;
 use sheet::SheetAnswer;
 
+// Where the name of a follower stands. `number` is the right segment's, which is the follower as a
+// rule, so that the sheet need not be walked.
+fn follower_name(
+    sheet: &[u8],
+    places: Places,
+    follower: usize,
+    right: Segment,
+    number: usize,
+) -> Span
+    requires { ⌜
+        (answerIn (sheetPlaces (now sheet)) ≡ SheetAnswer.Read places) ×
+        (Named (now sheet) right × Numbered (now sheet) right number)
+        ⌝ }
+    ensures { λ r.
+        ⌜
+        (bytesAt (now (sheet .entry)) r ≡ nameOf (sheetOf (now (sheet .entry)) .segments) follower) ×
+        (r .at + r .len ≤ length (now (sheet .entry)))
+        ⌝ }
+{
+    if follower == number {
+        return right.name;
+    }
+    sheet::name_of(sheet, places, follower)
+}
+
 // Whether a phone is no vowel and its follower's `vc` is `-`. Folding changes neither.
-fn in_cluster(sheet: &[u8], places: Places, left: Segment) -> bool
-    requires { ⌜ (answerIn (sheetPlaces (now sheet)) ≡ SheetAnswer.Read places) × Named (now sheet) left ⌝ }
+fn in_cluster(sheet: &[u8], places: Places, left: Segment, right: Segment, number: usize) -> bool
+    requires { ⌜
+        (answerIn (sheetPlaces (now sheet)) ≡ SheetAnswer.Read places) ×
+        (Named (now sheet) left × (Named (now sheet) right × Numbered (now sheet) right number))
+        ⌝ }
     ensures { λ r.
         ⌜ r ≡ selecting.inCluster (sheetOf (now (sheet .entry)) .segments) (segmentRead (now (sheet .entry)) left) ⌝ }
 {
     if phoneset::is_vowel(voice::sections::bytes_at(sheet, left.name)) {
         return false;
     }
-    let follower = sheet::name_of(sheet, places, left.follower);
+    let follower = follower_name(sheet, places, left.follower, right, number);
     match phoneset::vc_of(voice::sections::bytes_at(sheet, follower)) {
         Vc::Plus => false,
         Vc::Minus => true,
@@ -101,7 +131,7 @@ fn select_plain(file: &[u8], index: &[u8], by: Selection, left: &[u8], right: &[
     }
 }
 
-// The entry of a pair of segments.
+// The entry of a pair of segments. `number` is the right one's.
 pub fn select(
     file: &[u8],
     index: &[u8],
@@ -109,11 +139,12 @@ pub fn select(
     by: Selection,
     left: Segment,
     right: Segment,
+    number: usize,
 ) -> EntryPeriods
     requires { ⌜
         Searchable (now file) (now index) by ×
         ((answerIn (sheetPlaces (now sheet)) ≡ SheetAnswer.Read (by .places)) ×
-        (Named (now sheet) left × Named (now sheet) right))
+        (Named (now sheet) left × (Named (now sheet) right × Numbered (now sheet) right number)))
         ⌝ }
     ensures { λ r.
         ⌜
@@ -127,7 +158,7 @@ pub fn select(
 {
     let left_name = voice::sections::bytes_at(sheet, left.name);
     let right_name = voice::sections::bytes_at(sheet, right.name);
-    if !in_cluster(sheet, by.places, left) {
+    if !in_cluster(sheet, by.places, left, right, number) {
         return select_plain(file, index, by, left_name, right_name);
     }
     match find_pair(file, index, by, left_name, right_name, true) {

@@ -35,7 +35,8 @@ pub fn next_units(
     let after = super::walk::next_pair(sheet, segments.count, walk);
     let left = walk.left;
     let right = after.left;
-    let e = super::select::select(file, index, sheet, by, left, right);
+    let number = segments.count - after.remaining;
+    let e = super::select::select(file, index, sheet, by, left, right, number);
     let from = left.end;
     let to = right.end;
     let units = super::ends::unit_pair(by.voice.header.rate, e, from, to);

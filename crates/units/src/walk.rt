@@ -13,7 +13,7 @@ ghost use Rattle.sheet.specs.Answers.{segmentRead};
 ghost use Rattle.sheet.specs.Places.{answerIn, sheetPlaces, isRead};
 ghost use Rattle.units.specs.Selecting.{folded};
 ghost use Rattle.units.specs.Units.{unitsOf, endRefusal};
-ghost use Rattle.units.specs.Walking.{Walking, listIn, segmentsAt, coming};
+ghost use Rattle.units.specs.Walking.{Reached, Walking, listIn, segmentsAt, coming};
 use super::PairWalk;
 use sheet::Places;
 use sheet::SheetAnswer;
@@ -23,7 +23,7 @@ fn walk_from(sheet: &[u8], count: usize, n: usize, at: usize) -> PairWalk
     requires { ⌜ (isRead (segmentsAt (now sheet) count n at) ≡ true) × (0 < n) ⌝ }
     ensures { λ r.
         ⌜
-        (Walking (now (sheet .entry)) count r × (r .remaining + 1 ≡ n)) ×
+        (Reached (now (sheet .entry)) count r × (r .remaining + 1 ≡ n)) ×
         (listIn (segmentsAt (now (sheet .entry)) count n at) ≡
         segmentRead (now (sheet .entry)) (r .left) ∷ coming (now (sheet .entry)) count r)
         ⌝ }

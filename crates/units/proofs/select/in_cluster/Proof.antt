@@ -13,8 +13,8 @@ is-vowel-requires c κs = search needs
 returns : tie.Need-returns
 returns c = let k = c .before in sym (cluster-vowel _ _ _ (k .before .bytes-at .ensures) _ (k .is-vowel .ensures) (c .if1 .taken))
 
-name-of-requires : tie.Need-name-of-requires
-name-of-requires c κs = search needs
+follower-name-requires : tie.Need-follower-name-requires
+follower-name-requires c κs = search needs
 
 bytes-at-requires-2 : tie.Need-bytes-at-requires-2
 bytes-at-requires-2 c κs = search needs
@@ -36,21 +36,21 @@ returns-2 c =
     let k = c .before .before in
     let n = k .before .before in
     let l = n .before in
-    sym (cluster-next _ _ _ (l .before .before .bytes-at .ensures) _ (l .before .is-vowel .ensures) (l .if1 .left) _ (k .before .bytes-at2 .ensures ∙ n .name-of .ensures .0) _ _ (k .vc-of .ensures) (c .enum-told .given .1))
+    sym (cluster-next _ _ _ (l .before .before .bytes-at .ensures) _ (l .before .is-vowel .ensures) (l .if1 .left) _ (k .before .bytes-at2 .ensures ∙ n .follower-name .ensures .0) _ _ (k .vc-of .ensures) (c .enum-told .given .1))
 
 returns-3 : tie.Need-returns-3
 returns-3 c =
     let k = c .before .before in
     let n = k .before .before in
     let l = n .before in
-    sym (cluster-next _ _ _ (l .before .before .bytes-at .ensures) _ (l .before .is-vowel .ensures) (l .if1 .left) _ (k .before .bytes-at2 .ensures ∙ n .name-of .ensures .0) _ _ (k .vc-of .ensures) (c .enum-told2 .given .1))
+    sym (cluster-next _ _ _ (l .before .before .bytes-at .ensures) _ (l .before .is-vowel .ensures) (l .if1 .left) _ (k .before .bytes-at2 .ensures ∙ n .follower-name .ensures .0) _ _ (k .vc-of .ensures) (c .enum-told2 .given .1))
 
 returns-4 : tie.Need-returns-4
 returns-4 c =
     let k = c .before .before in
     let n = k .before .before in
     let l = n .before in
-    sym (cluster-next _ _ _ (l .before .before .bytes-at .ensures) _ (l .before .is-vowel .ensures) (l .if1 .left) _ (k .before .bytes-at2 .ensures ∙ n .name-of .ensures .0) _ _ (k .vc-of .ensures) (c .enum-told3 .given .1))
+    sym (cluster-next _ _ _ (l .before .before .bytes-at .ensures) _ (l .before .is-vowel .ensures) (l .if1 .left) _ (k .before .bytes-at2 .ensures ∙ n .follower-name .ensures .0) _ _ (k .vc-of .ensures) (c .enum-told3 .given .1))
 
 pub in-cluster-spec : {M : Type 1} → statement M
 in-cluster-spec =
@@ -59,7 +59,7 @@ in-cluster-spec =
     bytes-at-requires
     is-vowel-requires
     returns
-    name-of-requires
+    follower-name-requires
     bytes-at-requires-2
     vc-of-requires
     enum-told

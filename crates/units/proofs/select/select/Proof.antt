@@ -20,7 +20,7 @@ select-plain-requires : tie.Need-select-plain-requires
 select-plain-requires c κs =
     let a = c .before .before .before .before .before .before .before in
     let l = a .pre .1 .1 in
-    (a .pre .0, (name-short (l .0) (c .before .before .before .bytes-at .ensures), name-short (l .1) (c .before .before .bytes-at2 .ensures)))
+    (a .pre .0, (name-short (l .0) (c .before .before .before .bytes-at .ensures), name-short (l .1 .0) (c .before .before .bytes-at2 .ensures)))
 
 returns : tie.Need-returns
 returns c =
@@ -33,7 +33,7 @@ find-pair-requires : tie.Need-find-pair-requires
 find-pair-requires c κs =
     let a = c .before .before .before .before .before .before .before in
     let l = a .pre .1 .1 in
-    (a .pre .0, (name-short (l .0) (c .before .before .before .bytes-at .ensures), name-short (l .1) (c .before .before .bytes-at2 .ensures)))
+    (a .pre .0, (name-short (l .0) (c .before .before .before .bytes-at .ensures), name-short (l .1 .0) (c .before .before .bytes-at2 .ensures)))
 
 enum-known-e : tie.Need-enum-known-e
 enum-known-e c = search needs
@@ -45,7 +45,7 @@ select-plain-requires-2 : tie.Need-select-plain-requires-2
 select-plain-requires-2 c κs =
     let a = c .before .before .before .before .before .before .before .before .before .before in
     let l = a .pre .1 .1 in
-    (a .pre .0, (name-short (l .0) (c .before .before .before .before .before .before .bytes-at .ensures), name-short (l .1) (c .before .before .before .before .before .bytes-at2 .ensures)))
+    (a .pre .0, (name-short (l .0) (c .before .before .before .before .before .before .bytes-at .ensures), name-short (l .1 .0) (c .before .before .before .before .before .bytes-at2 .ensures)))
 
 returns-2 : tie.Need-returns-2
 returns-2 c =
