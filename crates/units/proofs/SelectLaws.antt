@@ -70,11 +70,11 @@ module _ (ss : List SegmentRead) (s : SegmentRead) (bs : List ℕ) (b : bs ≡ s
   unfolding inCluster
   cluster-vowel e = let h : isVowel (s .name) ≡ true = ap isVowel (sym b) ∙ sym v ∙ e in rw h
 
-  pub cluster-next : t ≡ false → (ns : List ℕ) → ns ≡ nameOf ss (s .follower) → (w x : Vc) → w ≡ vc ns → w ≡ x → inCluster ss s ≡ isMinus x
+  pub cluster-next : t ≡ false → (ns : List ℕ) → ns ≡ nameOf ss (s .follower) → (w : Vc) → w ≡ vc ns → inCluster ss s ≡ isMinus w
   unfolding inCluster
-  cluster-next e ns n w x f g =
+  cluster-next e ns n w f =
       let h : isVowel (s .name) ≡ false = ap isVowel (sym b) ∙ sym v ∙ e in
-      let q : vc (nameOf ss (s .follower)) ≡ x = ap vc (sym n) ∙ sym f ∙ g in
+      let q : vc (nameOf ss (s .follower)) ≡ w = ap vc (sym n) ∙ sym f in
       rw (h, q)
 
 -- ---- a segment's name

@@ -2,6 +2,7 @@
 ghost use mathlib.Core.Path.{_≡_};
 ghost use Prim.Native.Nat.{_+_, _≤_};
 ghost use lib.ListN.{length};
+ghost use Rattle.phoneset.specs.Phones.{isMinus};
 ghost use Rattle.voice.specs.Voice as voices;
 ghost use Rattle.index.specs.Index.{periodsOf, foundOf, firstOf};
 ghost use Rattle.sheet.specs.Sheet.{sheetOf};
@@ -45,6 +46,17 @@ fn follower_name(
     sheet::name_of(sheet, places, follower)
 }
 
+// Whether a feature `vc` is `-`.
+fn is_minus(vc: Vc) -> bool
+    ensures { λ r. ⌜ r ≡ isMinus vc ⌝ }
+{
+    match vc {
+        Vc::Plus => false,
+        Vc::Minus => true,
+        Vc::Zero => false,
+    }
+}
+
 // Whether a phone is no vowel and its follower's `vc` is `-`. Folding changes neither.
 fn in_cluster(sheet: &[u8], places: Places, left: Segment, right: Segment, number: usize) -> bool
     requires { ⌜
@@ -58,11 +70,7 @@ fn in_cluster(sheet: &[u8], places: Places, left: Segment, right: Segment, numbe
         return false;
     }
     let follower = follower_name(sheet, places, left.follower, right, number);
-    match phoneset::vc_of(voice::sections::bytes_at(sheet, follower)) {
-        Vc::Plus => false,
-        Vc::Minus => true,
-        Vc::Zero => false,
-    }
+    is_minus(phoneset::vc_of(voice::sections::bytes_at(sheet, follower)))
 }
 
 // What the voice has under a name: by the sorted index, or in file order without it.

@@ -22,35 +22,15 @@ bytes-at-requires-2 c κs = search needs
 vc-of-requires : tie.Need-vc-of-requires
 vc-of-requires c κs = search needs
 
-enum-told : tie.Need-enum-told
-enum-told c = search needs
-
-enum-told-2 : tie.Need-enum-told-2
-enum-told-2 c = search needs
-
-enum-told-3 : tie.Need-enum-told-3
-enum-told-3 c = search needs
+is-minus-requires : tie.Need-is-minus-requires
+is-minus-requires c κs = search needs
 
 returns-2 : tie.Need-returns-2
 returns-2 c =
-    let k = c .before .before in
+    let k = c .before in
     let n = k .before .before in
     let l = n .before in
-    sym (cluster-next _ _ _ (l .before .before .bytes-at .ensures) _ (l .before .is-vowel .ensures) (l .if1 .left) _ (k .before .bytes-at2 .ensures ∙ n .follower-name .ensures .0) _ _ (k .vc-of .ensures) (c .enum-told .given .1))
-
-returns-3 : tie.Need-returns-3
-returns-3 c =
-    let k = c .before .before in
-    let n = k .before .before in
-    let l = n .before in
-    sym (cluster-next _ _ _ (l .before .before .bytes-at .ensures) _ (l .before .is-vowel .ensures) (l .if1 .left) _ (k .before .bytes-at2 .ensures ∙ n .follower-name .ensures .0) _ _ (k .vc-of .ensures) (c .enum-told2 .given .1))
-
-returns-4 : tie.Need-returns-4
-returns-4 c =
-    let k = c .before .before in
-    let n = k .before .before in
-    let l = n .before in
-    sym (cluster-next _ _ _ (l .before .before .bytes-at .ensures) _ (l .before .is-vowel .ensures) (l .if1 .left) _ (k .before .bytes-at2 .ensures ∙ n .follower-name .ensures .0) _ _ (k .vc-of .ensures) (c .enum-told3 .given .1))
+    c .is-minus .ensures ∙ sym (cluster-next _ _ _ (l .before .before .bytes-at .ensures) _ (l .before .is-vowel .ensures) (l .if1 .left) _ (k .before .bytes-at2 .ensures ∙ n .follower-name .ensures .0) _ (k .vc-of .ensures))
 
 pub in-cluster-spec : {M : Type 1} → statement M
 in-cluster-spec =
@@ -62,9 +42,5 @@ in-cluster-spec =
     follower-name-requires
     bytes-at-requires-2
     vc-of-requires
-    enum-told
-    enum-told-2
-    enum-told-3
-    returns-2
-    returns-3
-    returns-4)
+    is-minus-requires
+    returns-2)
