@@ -1,2 +1,7 @@
 -- Laws about units' definitions.
 pub mod UnitLaws
+pub mod NameLaws
+pub mod SelectLaws
+pub mod WalkLaws
+pub mod EndLaws
+pub mod StepLaws

@@ -15,10 +15,11 @@ use Rattle.voice.specs.Opening.{endPeriod, withinFrames, distinct}
 use Rattle.voice.specs.Extends.{Extends}
 use Rattle.voice.proofs.EntryLaws.{lookup-finds, stands-found, stands-within}
 use Rattle.sheet.specs.Sheet.{SegmentRead, asF32}
+use Rattle.sheet.specs.Followers.{nameOf}
 use Rattle.sheet.proofs.SheetLaws as sheets
 use Rattle.sheet.proofs.SheetLaws.{Refers}
 use Rattle.units.specs.declared.Unit.{Unit}
-use Rattle.units.specs.Selecting.{foldSegment, folded, nameOf, inCluster, firstTried, entryOf, foundFrom, foundAll, firstTriedFound}
+use Rattle.units.specs.Selecting.{foldSegment, folded, inCluster, firstTried, entryOf, foundFrom, foundAll, firstTriedFound}
 use Rattle.units.specs.Units.{unitsOfPair, unitsFrom, unitsAll, unitsOf}
 
 -- units whose periods are below n
@@ -31,7 +32,7 @@ pub data Within (n : ℕ) : List Unit → Type 0 where
 pair-same : (r r′ : ℕ) (e e′ : Entry) (x y : Float) (q q′ : List Unit) → r ≡ r′ → e ≡ e′ → q ≡ q′ → unitsOfPair r e x y ++ q ≡ unitsOfPair r′ e′ x y ++ q′
 pair-same r r′ e e′ x y q q′ a b c = cc
 
-pair-within : (n r : ℕ) (e : Entry) (x y : Float) (us : List Unit) → endPeriod e ≤ n → Within n us → Within n (unitsOfPair r e x y ++ us)
+pub pair-within : (n r : ℕ) (e : Entry) (x y : Float) (us : List Unit) → endPeriod e ≤ n → Within n us → Within n (unitsOfPair r e x y ++ us)
 unfolding unitsOfPair
 pair-within n r e x y us l i =
     let a : e .start ≤ e .start + e .first = omega arith in

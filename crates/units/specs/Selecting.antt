@@ -2,34 +2,36 @@
 use mathlib.Core.Bool.{Bool, true, false, _&&_, not}
 use mathlib.Core.List.{List, [], _∷_, _++_, map}
 use mathlib.Core.Option.{Option, none, some}
-use Prim.Native.Nat.{ℕ, zero, suc}
+use Prim.Native.Nat.{ℕ}
 use Rattle.base.specs.Choice.{pick}
 use Rattle.base.specs.Text.{ascii}
 use Rattle.text.specs.Names.{same}
-use Rattle.voice.specs.Voice.{Entry, Placed, Voice, lookup, isSome, sorted}
+use Rattle.voice.specs.Voice.{Entry, Voice, lookup, isSome, sorted}
+use Rattle.index.specs.Index.{firstOf}
 use Rattle.phoneset.specs.Phones.{vc, isVowel, isMinus}
 use Rattle.sheet.specs.Sheet.{SegmentRead}
+use Rattle.sheet.specs.Followers.{nameOf}
 
 -- ---- fold on: 'ah' becomes 'aa'
 
 unfoldable pub foldName : List ℕ → List ℕ
 foldName n = pick (same n (ascii "ah")) (ascii "aa") n
 
+-- with fold on or off
+abbrev pub foldedName : Bool → List ℕ → List ℕ
+foldedName fold n = pick fold (foldName n) n
+
 abbrev pub foldSegment : SegmentRead → SegmentRead
 foldSegment s = record { name = foldName (s .name); end = s .end; follower = s .follower }
+
+abbrev pub foldedSegment : Bool → SegmentRead → SegmentRead
+foldedSegment fold s = record { name = foldedName fold (s .name); end = s .end; follower = s .follower }
 
 unfoldable pub folded : Bool → List SegmentRead → List SegmentRead
 folded false ss = ss
 folded true ss = map foldSegment ss
 
 -- ---- the names that a pair tries
-
--- the name of the segment with a number from 1; no name for 0
-unfoldable pub nameOf : List SegmentRead → ℕ → List ℕ
-nameOf ss zero = []
-nameOf [] (suc n) = []
-nameOf (s ∷ ss) (suc zero) = s .name
-nameOf (s ∷ ss) (suc (suc n)) = nameOf ss (suc n)
 
 -- 'the left phone is no vowel and its follower's `vc` is `-`'; ss has all segments
 unfoldable pub inCluster : List SegmentRead → SegmentRead → Bool
@@ -42,6 +44,13 @@ clusterName left right = left ++ (ascii "_-_" ++ right)
 abbrev pub plainName : List ℕ → List ℕ → List ℕ
 plainName left right = left ++ (ascii "-" ++ right)
 
+-- the one for a cluster, else the other
+abbrev pub joint : Bool → List ℕ
+joint cluster = pick cluster (ascii "_-_") (ascii "-")
+
+abbrev pub pairName : Bool → List ℕ → List ℕ → List ℕ
+pairName cluster left right = left ++ (joint cluster ++ right)
+
 -- 'The first name a pair tries, after folding, is its first-tried name'
 unfoldable pub firstTried : List SegmentRead → SegmentRead → SegmentRead → List ℕ
 firstTried ss left right = pick (inCluster ss left) (clusterName (left .name) (right .name)) (plainName (left .name) (right .name))
@@ -52,16 +61,14 @@ abbrev pub orElse : Option Entry → Entry → Entry
 orElse none d = d
 orElse (some e) d = e
 
--- 'the sorted first entry'; an open voice has one
-abbrev pub firstEntry : List Placed → Entry
-firstEntry [] = record { name = []; start = 0; first = 0; second = 0 }
-firstEntry (p ∷ ps) = p .entry
+-- 'then `left-right`; then the sorted first entry'
+abbrev pub plainEntry : Voice → List ℕ → List ℕ → Entry
+plainEntry v left right = orElse (lookup (plainName left right) (v .entries)) (firstOf (sorted v))
 
 -- 'try `left_-_right`; then `left-right`; then the sorted first entry'
 unfoldable pub entryOf : Voice → List SegmentRead → SegmentRead → SegmentRead → Entry
 entryOf v ss left right =
-    orElse (lookup (firstTried ss left right) (v .entries))
-    (orElse (lookup (plainName (left .name) (right .name)) (v .entries)) (firstEntry (sorted v)))
+    orElse (lookup (firstTried ss left right) (v .entries)) (plainEntry v (left .name) (right .name))
 
 -- ---- each pair finds its first-tried name
 

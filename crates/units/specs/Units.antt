@@ -1,8 +1,8 @@
 -- Document 01, 'Selecting and marking': halves and target ends.
 use mathlib.Core.List.{List, [], _∷_, _++_}
 use mathlib.Core.Option.{Option, none, some}
-use mathlib.Core.Bool.{false}
-use Prim.Native.Nat.{ℕ, _+_}
+use mathlib.Core.Bool.{Bool, false, _&&_}
+use Prim.Native.Nat.{ℕ, _+_, _≤_}
 use lib.Dec.{leb}
 use lib.IntN.{pos}
 use lib.Ieee.{Float, fin, binary32, add, mul, div, ofInt, toUnsigned}
@@ -10,8 +10,12 @@ use Rattle.base.specs.Choice.{pick}
 use Rattle.refusal.specs.declared.Refusal.{Refusal}
 use Rattle.refusal.specs.declared.Refusal.the-variants.{PastLimit}
 use Rattle.voice.specs.Voice.{Entry, Voice}
+use Rattle.index.specs.declared.EntryPeriods.{EntryPeriods}
+use Rattle.index.specs.Index.{periodsOf}
 use Rattle.sheet.specs.Sheet.{SegmentRead, asF32}
 use Rattle.units.specs.declared.Unit.{Unit}
+use Rattle.units.specs.declared.UnitPair.{UnitPair}
+use Rattle.units.specs.declared.TargetEnds.{TargetEnds}
 use Rattle.units.specs.Selecting.{entryOf}
 
 -- a time in seconds × rate, in f32, 'truncated, 0 below zero'
@@ -22,13 +26,29 @@ samplesAt rate time = toUnsigned 64 (mul binary32 time (ofInt binary32 (pos rate
 unfoldable pub midway : Float → Float → Float
 midway left right = div binary32 (add binary32 left right) (fin false 1 (pos 1))
 
--- 'Halves are start to middle, middle to end. Target ends: left end × rate, and (left + right) / 2 × rate'
-unfoldable pub unitsOfPair : ℕ → Entry → Float → Float → List Unit
-unitsOfPair rate e left right =
+-- 'Target ends, in f32: left end × rate, and (left + right) / 2 × rate'
+abbrev pub endsOf : ℕ → Float → Float → TargetEnds
+endsOf rate left right = record { first = samplesAt rate left; second = samplesAt rate (midway left right) }
+
+-- 'Halves are start to middle, middle to end'
+abbrev pub pairOf : EntryPeriods → TargetEnds → UnitPair
+pairOf e ends =
     let middle = e .start + e .first in
-    record { «first_period» = e .start; «last_period» = middle; «target_end» = samplesAt rate left }
-    ∷ record { «first_period» = middle; «last_period» = middle + e .second; «target_end» = samplesAt rate (midway left right) }
-    ∷ []
+    record {
+      first = record { «first_period» = e .start; «last_period» = middle; «target_end» = ends .first };
+      second = record { «first_period» = middle; «last_period» = middle + e .second; «target_end» = ends .second };
+    }
+
+abbrev pub listed : UnitPair → List Unit
+listed p = p .first ∷ p .second ∷ []
+
+unfoldable pub unitsOfPair : ℕ → Entry → Float → Float → List Unit
+unitsOfPair rate e left right = listed (pairOf (periodsOf e) (endsOf rate left right))
+
+-- a unit's periods are among so many
+pub record Inside (frames : ℕ) (u : Unit) : Type 0 where
+  pub rising : u .«first_period» ≤ u .«last_period»
+  pub within : u .«last_period» ≤ frames
 
 -- the pair of `left` and the first of the segments after it, and so on; ss has all segments, to which followers refer
 unfoldable pub unitsFrom : Voice → List SegmentRead → SegmentRead → List SegmentRead → List Unit
@@ -47,6 +67,10 @@ unitsOf v ss = unitsAll v ss ss
 -- the greatest mark or target end that a call has
 abbrev pub limit : ℕ
 limit = 16777215
+
+-- both target ends of a pair are within it
+abbrev pub endsFit : TargetEnds → Bool
+endsFit e = leb (e .first) limit && leb (e .second) limit
 
 -- 11 at the first target end above the limit, in unit order
 unfoldable pub endRefusal : List Unit → Option Refusal

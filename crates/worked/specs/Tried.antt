@@ -25,7 +25,8 @@ use Rattle.voice.specs.Periods.{offset, residualOf, samplesOf, samplesFrom, row
 use Rattle.voice.specs.Opening.{hasNeeded, risingIn, goodTables, withinFrames, distinct, goodIndex, openingRefusal, indexFits}
 use Rattle.phoneset.specs.Phones.{vowels, consonants, vc, isVowel}
 use Rattle.sheet.specs.Sheet.{_andThen_, groups, count, printable, name, isFinite, finite, valueOf, value, asF32, segment, target, repeated, sheetFrom, sheetRefusal, sheetOf}
-use Rattle.units.specs.Selecting.{foldName, folded, nameOf, inCluster, firstTried, entryOf}
+use Rattle.sheet.specs.Followers.{nameOf}
+use Rattle.units.specs.Selecting.{foldName, folded, inCluster, firstTried, entryOf}
 use Rattle.units.specs.Units.{samplesAt, midway, unitsOfPair, unitsFrom, unitsAll, endRefusal}
 use Rattle.marks.specs.PitchMarks.{f0At, goesOn, nextTime, markAt, climb, slopeOf, climbTo, marksFrom, pitchMarks}
 use Rattle.marks.specs.NaturalMarks.{marksOfPeriods, naturalMarks, naturalUnits, markRefusal}

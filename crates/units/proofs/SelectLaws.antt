@@ -1,0 +1,215 @@
+-- The entry of a pair: the cluster rule, an open voice's entries, and the names tried in turn.
+use mathlib.Core.Path.{_≡_, refl, sym, ap, subst, _∙_}
+use mathlib.Core.Bool.{Bool, true, false, _&&_, not, true≢false}
+use mathlib.Core.List.{List, [], _∷_}
+use mathlib.Core.Option.{Option, none, some}
+use Prim.Native.Nat.{ℕ, zero, suc, _+_, _≤_}
+use native.Mathlib.Omega.{arith}
+use lib.Dec.{eqb}
+use lib.ListN.{length}
+use Rattle.base.specs.Choice.{pick}
+use Rattle.base.specs.Text.{ascii}
+use Rattle.base.proofs.ListLaws.{every-at, length-part}
+use Rattle.container.specs.Sections.{bytesAt}
+use Rattle.text.specs.Names.{same, among}
+use Rattle.text.proofs.NameLaws.{same-eq}
+use Rattle.phoneset.specs.declared.Vc.{Vc}
+use Rattle.phoneset.specs.Phones.{vowels, vc, isVowel, isPlus, isMinus}
+use Rattle.voice.specs.declared.DiphoneVoice.{DiphoneVoice}
+use Rattle.voice.specs.declared.VoiceHeader.{VoiceHeader}
+use Rattle.voice.specs.Voice.{Entry, Placed, Voice, voiceOf, entriesFrom, lookup, sort, sorted}
+use Rattle.voice.specs.Opening.{IsOpen, endPeriod, distinct}
+use Rattle.voice.proofs.OpeningLaws.{passed, opens}
+use Rattle.voice.proofs.TableLaws.{header-is}
+use Rattle.voice.proofs.EntryLaws.{lookup-finds, stands-within}
+use Rattle.index.specs.declared.EntryPeriods.{EntryPeriods}
+use Rattle.index.specs.declared.FoundEntry.{FoundEntry}
+use Rattle.index.specs.declared.FoundEntry.the-variants.{Found, Missing}
+use Rattle.index.specs.Index.{Filled, periodsOf, foundOf, firstOf}
+use Rattle.index.proofs.FilledLaws.{empty-count, first-within}
+use Rattle.opening.proofs.IndexLaws.{indexSpan, index-are, open-whole, entries-are}
+use Rattle.sheet.specs.declared.Segment.{Segment}
+use Rattle.sheet.specs.Sheet.{SegmentRead}
+use Rattle.sheet.specs.Followers.{nameOf}
+use Rattle.units.specs.Asked.{Named}
+use Rattle.units.specs.Selecting.{foldName, foldedName, foldedSegment, folded, inCluster, pairName, plainName, clusterName, firstTried, orElse, plainEntry, entryOf}
+
+-- ---- folding, and the cluster rule
+
+-- `ah` and `aa` are both vowels
+both-vowels : vc (ascii "aa") ≡ vc (ascii "ah")
+unfolding vc vowels among same
+both-vowels = refl
+
+vc-folded : (fold : Bool) (n : List ℕ) → vc (foldedName fold n) ≡ vc n
+unfolding foldName
+vc-folded false n = refl
+vc-folded true n = by (same n (ascii "ah")) refl
+  where
+    by : (t : Bool) → same n (ascii "ah") ≡ t → vc (pick t (ascii "aa") n) ≡ vc n
+    by false e = refl
+    by true e = both-vowels ∙ sym (ap vc (same-eq n (ascii "ah") e))
+
+name-folded : (fold : Bool) (ss : List SegmentRead) (k : ℕ) → nameOf (folded fold ss) k ≡ foldedName fold (nameOf ss k)
+unfolding folded nameOf foldName same
+name-folded false ss k = refl
+name-folded true ss zero = refl
+name-folded true [] (suc k) = refl
+name-folded true (s ∷ ss) (suc zero) = refl
+name-folded true (s ∷ ss) (suc (suc k)) = name-folded true ss (suc k)
+
+pub cluster-folded : (fold : Bool) (ss : List SegmentRead) (s : SegmentRead) → inCluster (folded fold ss) (foldedSegment fold s) ≡ inCluster ss s
+unfolding inCluster isVowel
+cluster-folded fold ss s =
+    ap (λ (v : Vc). not (isPlus v) && isMinus (vc (nameOf (folded fold ss) (s .follower)))) (vc-folded fold (s .name))
+    ∙ ap (λ (v : Vc). not (isPlus (vc (s .name))) && isMinus v) (ap vc (name-folded fold ss (s .follower)) ∙ vc-folded fold (nameOf ss (s .follower)))
+
+-- the rule, asked of the names' bytes
+module _ (ss : List SegmentRead) (s : SegmentRead) (bs : List ℕ) (b : bs ≡ s .name) (t : Bool) (v : t ≡ isVowel bs) where
+  pub cluster-vowel : t ≡ true → inCluster ss s ≡ false
+  unfolding inCluster
+  cluster-vowel e = let h : isVowel (s .name) ≡ true = ap isVowel (sym b) ∙ sym v ∙ e in rw h
+
+  pub cluster-next : t ≡ false → (ns : List ℕ) → ns ≡ nameOf ss (s .follower) → (w : Vc) → w ≡ vc ns → inCluster ss s ≡ isMinus w
+  unfolding inCluster
+  cluster-next e ns n w f =
+      let h : isVowel (s .name) ≡ false = ap isVowel (sym b) ∙ sym v ∙ e in
+      let q : vc (nameOf ss (s .follower)) ≡ w = ap vc (sym n) ∙ sym f in
+      rw (h, q)
+
+-- ---- a segment's name
+
+pub name-short : {sheet : List ℕ} {s : Segment} → Named sheet s → {bs : List ℕ} → bs ≡ bytesAt sheet (s .name) → length bs ≤ 32
+name-short {sheet} {s} n e = let l = ap length e ∙ length-part sheet (s .name .at) (s .name .len) (n .within) in omega (arith, l, n .short)
+
+-- ---- the entries of an open voice, by their bytes
+
+module _ (file : List ℕ) (d : DiphoneVoice) (o : IsOpen file d) (bs : List ℕ) (b : bs ≡ bytesAt file (d .entries)) where
+  abbrev v : Voice
+  v = voiceOf file
+
+  pub whole-at : entriesFrom (d .count) bs 0 .whole ≡ true
+  whole-at = ap (λ (l : List ℕ). entriesFrom (d .count) l 0 .whole) b ∙ open-whole file d o
+
+  pub entries-at : entriesFrom (d .count) bs 0 .list ≡ v .entries
+  entries-at = ap (λ (l : List ℕ). entriesFrom (d .count) l 0 .list) b ∙ sym (entries-are file d o)
+
+  pub distinct-at : distinct (entriesFrom (d .count) bs 0 .list) ≡ true
+  distinct-at = ap distinct entries-at ∙ opens file (o .fit) .namesDiffer
+
+  pub some-at : 1 ≤ d .count
+  some-at =
+      let t = sym (index-are file d (o .places) (indexSpan file) bs refl b) ∙ passed file (o .fit) .index in
+      by (d .count) (ap not (sym (empty-count bs (d .count) 0 whole-at)) ∙ every-at _ t 2)
+    where
+      by : (n : ℕ) → not (eqb n 0) ≡ true → 1 ≤ n
+      by zero e = absurd (true≢false (sym e))
+      by (suc n) e = omega arith
+
+  pub found-at : (name : List ℕ) {r : FoundEntry} → r ≡ foundOf (lookup name (entriesFrom (d .count) bs 0 .list)) → r ≡ foundOf (lookup name (v .entries))
+  found-at name e = e ∙ ap (λ (ps : List Placed). foundOf (lookup name ps)) entries-at
+
+  pub first-at : {r : EntryPeriods} → r ≡ periodsOf (firstOf (sort (entriesFrom (d .count) bs 0 .list))) → r ≡ periodsOf (firstOf (sorted v))
+  unfolding sorted
+  first-at e = e ∙ ap (λ (ps : List Placed). periodsOf (firstOf (sort ps))) entries-at
+
+  pub filled-at : {index : List ℕ} → Filled (bytesAt file (d .entries)) (d .count) (d .entries .at) index → Filled bs (d .count) (d .entries .at) index
+  filled-at {index} f = subst (λ (l : List ℕ). Filled l (d .count) (d .entries .at) index) (sym b) f
+
+-- ---- the names tried in turn
+
+module _ (v : Voice) where
+  abbrev named : List ℕ → Option Entry
+  named n = lookup n (v .entries)
+
+  found-entry : (o : Option Entry) (x : Entry) (q : EntryPeriods) → foundOf o ≡ Found q → periodsOf (orElse o x) ≡ q
+  found-entry none x q e = absurd (let z : _≡_ {A = ℕ} 0 1 = cc in omega arith)
+  found-entry (some y) x q e = cc
+
+  missing-entry : (o : Option Entry) (x : Entry) → foundOf o ≡ Missing → orElse o x ≡ x
+  missing-entry none x e = refl
+  missing-entry (some y) x e = absurd (let z : _≡_ {A = ℕ} 0 1 = cc in omega arith)
+
+  module _ (left right : List ℕ) where
+    pub plain-found : (q : EntryPeriods) → foundOf (named (pairName false left right)) ≡ Found q → periodsOf (plainEntry v left right) ≡ q
+    plain-found q e = found-entry (named (plainName left right)) (firstOf (sorted v)) q e
+
+    pub plain-missing : foundOf (named (pairName false left right)) ≡ Missing → plainEntry v left right ≡ firstOf (sorted v)
+    plain-missing e = missing-entry (named (plainName left right)) (firstOf (sorted v)) e
+
+  module _ (ss : List SegmentRead) (left right : SegmentRead) where
+    tried : (t : Bool) → inCluster ss left ≡ t → entryOf v ss left right ≡ orElse (named (pick t (clusterName (left .name) (right .name)) (plainName (left .name) (right .name)))) (plainEntry v (left .name) (right .name))
+    unfolding entryOf firstTried
+    tried t e = rw e
+
+    pub tried-plain : inCluster ss left ≡ false → entryOf v ss left right ≡ plainEntry v (left .name) (right .name)
+    tried-plain e = tried false e ∙ by (named (plainName (left .name) (right .name)))
+      where
+        by : (o : Option Entry) → orElse o (orElse o (firstOf (sorted v))) ≡ orElse o (firstOf (sorted v))
+        by none = refl
+        by (some x) = refl
+
+    pub tried-found : inCluster ss left ≡ true → (q : EntryPeriods) → foundOf (named (pairName true (left .name) (right .name))) ≡ Found q → periodsOf (entryOf v ss left right) ≡ q
+    tried-found e q f = ap (λ (x : Entry). periodsOf x) (tried true e) ∙ found-entry (named (clusterName (left .name) (right .name))) (plainEntry v (left .name) (right .name)) q f
+
+    pub tried-missing : inCluster ss left ≡ true → foundOf (named (pairName true (left .name) (right .name))) ≡ Missing → entryOf v ss left right ≡ plainEntry v (left .name) (right .name)
+    tried-missing e f = tried true e ∙ missing-entry (named (clusterName (left .name) (right .name))) (plainEntry v (left .name) (right .name)) f
+
+-- ---- an entry that is selected ends within the frames
+
+module _ (file : List ℕ) (d : DiphoneVoice) (o : IsOpen file d) where
+  abbrev within : Entry → Type 0
+  within e = endPeriod e ≤ voiceOf file .header .frames
+
+  either : (p : Option Entry) (x : Entry) → ((e : Entry) → p ≡ some e → within e) → within x → within (orElse p x)
+  either none x f h = h
+  either (some e) x f h = f e refl
+
+  named-within : (n : List ℕ) (e : Entry) → lookup n (voiceOf file .entries) ≡ some e → within e
+  named-within n e p = stands-within (voiceOf file .header .frames) (voiceOf file .entries) (opens file (o .fit) .entriesEnd) e (lookup-finds n (voiceOf file .entries) e p .stands)
+
+  pub selected-within : (ss : List SegmentRead) (left right : SegmentRead) → endPeriod (entryOf (voiceOf file) ss left right) ≤ d .header .frames
+  unfolding entryOf sorted
+  selected-within ss left right =
+      let plain = plainName (left .name) (right .name) in
+      let first = first-within (voiceOf file .header .frames) (voiceOf file .entries) (opens file (o .fit) .entriesEnd) in
+      subst (λ (h : VoiceHeader). endPeriod (entryOf (voiceOf file) ss left right) ≤ h .frames) (header-is file d (o .places))
+      (either (named (voiceOf file) (firstTried ss left right)) _ (named-within (firstTried ss left right))
+      (either (named (voiceOf file) plain) _ (named-within plain) first))
+
+-- ---- the answers of a selection, by the bytes of the names
+
+module _ (file : List ℕ) (d : DiphoneVoice) (o : IsOpen file d) (fold : Bool) (ss : List SegmentRead) (l r : SegmentRead) (ls rs : List ℕ) (el : ls ≡ l .name) (er : rs ≡ r .name) (t : Bool) (i : t ≡ inCluster ss l) where
+  abbrev entry : Entry
+  entry = entryOf (voiceOf file) (folded fold ss) (foldedSegment fold l) (foldedSegment fold r)
+
+  abbrev Selected : EntryPeriods → Type 0
+  Selected e = (e ≡ periodsOf entry) × (e .start + e .first + e .second ≤ d .header .frames)
+
+  selected : (e : EntryPeriods) → periodsOf entry ≡ e → Selected e
+  selected e q = subst Selected q (refl, selected-within file d o (folded fold ss) (foldedSegment fold l) (foldedSegment fold r))
+
+  ruled : (u : Bool) → t ≡ u → inCluster (folded fold ss) (foldedSegment fold l) ≡ u
+  ruled u e = cluster-folded fold ss l ∙ sym i ∙ e
+
+  -- what is known of the names' bytes, of the names
+  of-names : {A : Type 0} (f : List ℕ → List ℕ → A) → f (foldedName fold (l .name)) (foldedName fold (r .name)) ≡ f (foldedName fold ls) (foldedName fold rs)
+  of-names f = sym (ap (λ (n : List ℕ). f (foldedName fold n) (foldedName fold rs)) el ∙ ap (λ (n : List ℕ). f (foldedName fold (l .name)) (foldedName fold n)) er)
+
+  abbrev cluster-found : FoundEntry
+  cluster-found = foundOf (lookup (pairName true (foldedName fold ls) (foldedName fold rs)) (voiceOf file .entries))
+
+  by-name : cluster-found ≡ foundOf (lookup (pairName true (foldedName fold (l .name)) (foldedName fold (r .name))) (voiceOf file .entries))
+  by-name = sym (of-names (λ a b. foundOf (lookup (pairName true a b) (voiceOf file .entries))))
+
+  plain-by : (e : EntryPeriods) → entry ≡ plainEntry (voiceOf file) (foldedName fold (l .name)) (foldedName fold (r .name)) → e ≡ periodsOf (plainEntry (voiceOf file) (foldedName fold ls) (foldedName fold rs)) → Selected e
+  plain-by e p q = selected e (ap (λ (x : Entry). periodsOf x) p ∙ of-names (λ a b. periodsOf (plainEntry (voiceOf file) a b)) ∙ sym q)
+
+  pub selected-plain : t ≡ false → {e : EntryPeriods} → e ≡ periodsOf (plainEntry (voiceOf file) (foldedName fold ls) (foldedName fold rs)) → Selected e
+  selected-plain f {e} q = plain-by e (tried-plain (voiceOf file) (folded fold ss) (foldedSegment fold l) (foldedSegment fold r) (ruled false f)) q
+
+  pub selected-found : t ≡ true → {e : EntryPeriods} → cluster-found ≡ Found e → Selected e
+  selected-found f {e} q = selected e (tried-found (voiceOf file) (folded fold ss) (foldedSegment fold l) (foldedSegment fold r) (ruled true f) e (sym by-name ∙ q))
+
+  pub selected-missing : t ≡ true → cluster-found ≡ Missing → {e : EntryPeriods} → e ≡ periodsOf (plainEntry (voiceOf file) (foldedName fold ls) (foldedName fold rs)) → Selected e
+  selected-missing f m {e} q = plain-by e (tried-missing (voiceOf file) (folded fold ss) (foldedSegment fold l) (foldedSegment fold r) (ruled true f) (sym by-name ∙ m)) q

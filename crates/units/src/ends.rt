@@ -1,0 +1,67 @@
+// The two units of a pair, with their target ends.
+ghost use mathlib.Core.Path.{_≡_};
+ghost use Prim.Native.Nat.{_+_, _^_, _<_};
+ghost use Rattle.sheet.specs.Sheet as sheets;
+ghost use Rattle.units.specs.Units as units;
+use super::TargetEnds;
+use super::Unit;
+use super::UnitPair;
+use index::EntryPeriods;
+use sheet::Value;
+
+// A time in seconds, in output samples.
+fn samples_at(rate: u32, time: f32) -> usize
+    ensures { λ r. ⌜ r ≡ units.samplesAt rate time ⌝ }
+{
+    float::f32_to_usize(time * float::u32_to_f32(rate))
+}
+
+// Half the way from one time to another.
+fn midway(left: f32, right: f32) -> f32
+    ensures { λ r. ⌜ r ≡ units.midway left right ⌝ }
+{
+    (left + right) / 2.0
+}
+
+// The target ends of a pair whose segments end at these times.
+fn target_ends(rate: u32, left: Value, right: Value) -> TargetEnds
+    ensures { λ r. ⌜ r ≡ units.endsOf rate (sheets.asF32 left) (sheets.asF32 right) ⌝ }
+{
+    let from = sheet::as_f32(left);
+    TargetEnds {
+        first: samples_at(rate, from),
+        second: samples_at(rate, midway(from, sheet::as_f32(right))),
+    }
+}
+
+// The units of a pair whose segments end at these times.
+pub fn unit_pair(rate: u32, e: EntryPeriods, left: Value, right: Value) -> UnitPair
+    requires { ⌜ e .start + e .first + e .second < 2 ^ 63 ⌝ }
+    ensures { λ r. ⌜ r ≡ units.pairOf e (units.endsOf rate (sheets.asF32 left) (sheets.asF32 right)) ⌝ }
+{
+    let ends = target_ends(rate, left, right);
+    let middle = e.start + e.first;
+    UnitPair {
+        first: Unit {
+            first_period: e.start,
+            last_period: middle,
+            target_end: ends.first,
+        },
+        second: Unit {
+            first_period: middle,
+            last_period: middle + e.second,
+            target_end: ends.second,
+        },
+    }
+}
+
+// Whether both target ends of a pair are within the limit.
+pub fn pair_fits(rate: u32, left: Value, right: Value) -> bool
+    ensures { λ r. ⌜ r ≡ units.endsFit (units.endsOf rate (sheets.asF32 left) (sheets.asF32 right)) ⌝ }
+{
+    let ends = target_ends(rate, left, right);
+    if 16777215 < ends.first {
+        return false;
+    }
+    ends.second <= 16777215
+}

@@ -1,0 +1,176 @@
+// The entry of each adjacent pair of segments. A `requires` here is what the caller has tested.
+ghost use mathlib.Core.Path.{_≡_};
+ghost use Prim.Native.Nat.{_+_, _≤_};
+ghost use lib.ListN.{length};
+ghost use Rattle.phoneset.specs.Phones.{isMinus};
+ghost use Rattle.voice.specs.Voice as voices;
+ghost use Rattle.index.specs.Index.{periodsOf, foundOf, firstOf};
+ghost use Rattle.sheet.specs.Sheet.{sheetOf};
+ghost use Rattle.sheet.specs.Answers.{segmentRead, bytesAt};
+ghost use Rattle.sheet.specs.Followers.{nameOf};
+ghost use Rattle.sheet.specs.Places.{answerIn, sheetPlaces};
+ghost use Rattle.units.specs.Asked.{Searchable, Named, Numbered};
+ghost use Rattle.units.specs.Selecting as selecting;
+ghost use Rattle.units.specs.Selecting.{foldedName};
+use super::Selection;
+use base::Span;
+use index::EntryPeriods;
+use index::FoundEntry;
+use phoneset::Vc;
+use sheet::Places;
+use sheet::Segment;
+use sheet::SheetAnswer;
+
+// Where the name of a follower stands. `number` is the right segment's, which is the follower as a
+// rule, so that the sheet need not be walked.
+fn follower_name(
+    sheet: &[u8],
+    places: Places,
+    follower: usize,
+    right: Segment,
+    number: usize,
+) -> Span
+    requires { ⌜
+        (answerIn (sheetPlaces (now sheet)) ≡ SheetAnswer.Read places) ×
+        (Named (now sheet) right × Numbered (now sheet) right number)
+        ⌝ }
+    ensures { λ r.
+        ⌜
+        (bytesAt (now (sheet .entry)) r ≡ nameOf (sheetOf (now (sheet .entry)) .segments) follower) ×
+        (r .at + r .len ≤ length (now (sheet .entry)))
+        ⌝ }
+{
+    if follower == number {
+        return right.name;
+    }
+    sheet::name_of(sheet, places, follower)
+}
+
+// Whether a feature `vc` is `-`.
+fn is_minus(vc: Vc) -> bool
+    ensures { λ r. ⌜ r ≡ isMinus vc ⌝ }
+{
+    match vc {
+        Vc::Plus => false,
+        Vc::Minus => true,
+        Vc::Zero => false,
+    }
+}
+
+// Whether a phone is no vowel and its follower's `vc` is `-`. Folding changes neither.
+fn in_cluster(sheet: &[u8], places: Places, left: Segment, right: Segment, number: usize) -> bool
+    requires { ⌜
+        (answerIn (sheetPlaces (now sheet)) ≡ SheetAnswer.Read places) ×
+        (Named (now sheet) left × (Named (now sheet) right × Numbered (now sheet) right number))
+        ⌝ }
+    ensures { λ r.
+        ⌜ r ≡ selecting.inCluster (sheetOf (now (sheet .entry)) .segments) (segmentRead (now (sheet .entry)) left) ⌝ }
+{
+    if phoneset::is_vowel(voice::sections::bytes_at(sheet, left.name)) {
+        return false;
+    }
+    let follower = follower_name(sheet, places, left.follower, right, number);
+    is_minus(phoneset::vc_of(voice::sections::bytes_at(sheet, follower)))
+}
+
+// What the voice has under a name: by the sorted index, or in file order without it.
+fn find_name(file: &[u8], index: &[u8], by: Selection, name: &[u8]) -> FoundEntry
+    requires { ⌜ Searchable (now file) (now index) by ⌝ }
+    ensures { λ r. ⌜ r ≡ foundOf (voices.lookup (now (name .entry)) (voices.voiceOf (now (file .entry)) .entries)) ⌝ }
+{
+    let entries = voice::sections::bytes_at(file, by.voice.entries);
+    if by.sorted {
+        return index::find(entries, by.voice.count, by.voice.entries.at, index, name);
+    }
+    index::lookup(entries, by.voice.count, name)
+}
+
+// The sorted first entry.
+fn first_entry(file: &[u8], index: &[u8], by: Selection) -> EntryPeriods
+    requires { ⌜ Searchable (now file) (now index) by ⌝ }
+    ensures { λ r. ⌜ r ≡ periodsOf (firstOf (voices.sorted (voices.voiceOf (now (file .entry))))) ⌝ }
+{
+    let entries = voice::sections::bytes_at(file, by.voice.entries);
+    if by.sorted {
+        return index::first_sorted(entries, by.voice.count, by.voice.entries.at, index);
+    }
+    index::smallest(entries, by.voice.count)
+}
+
+// What the voice has under the name of a pair, which is folded where fold is on.
+fn find_pair(
+    file: &[u8],
+    index: &[u8],
+    by: Selection,
+    left: &[u8],
+    right: &[u8],
+    cluster: bool,
+) -> FoundEntry
+    requires { ⌜
+        Searchable (now file) (now index) by × ((length (now left) ≤ 32) × (length (now right) ≤ 32))
+        ⌝ }
+    ensures { λ r.
+        ⌜
+        r ≡ foundOf
+        (voices.lookup
+        (selecting.pairName cluster (foldedName (by .fold) (now (left .entry))) (foldedName (by .fold) (now (right .entry))))
+        (voices.voiceOf (now (file .entry)) .entries))
+        ⌝ }
+{
+    let mut name = [0u8; 67];
+    let len = super::names::put_pair(left, right, cluster, by.fold, &mut name);
+    find_name(file, index, by, &name[..len])
+}
+
+// The entry of a pair that is no cluster, or whose cluster the voice has not.
+fn select_plain(file: &[u8], index: &[u8], by: Selection, left: &[u8], right: &[u8]) -> EntryPeriods
+    requires { ⌜
+        Searchable (now file) (now index) by × ((length (now left) ≤ 32) × (length (now right) ≤ 32))
+        ⌝ }
+    ensures { λ r.
+        ⌜
+        r ≡ periodsOf
+        (selecting.plainEntry (voices.voiceOf (now (file .entry))) (foldedName (by .fold) (now (left .entry))) (foldedName (by .fold) (now (right .entry))))
+        ⌝ }
+{
+    match find_pair(file, index, by, left, right, false) {
+        FoundEntry::Found(e) => e,
+        FoundEntry::Missing => first_entry(file, index, by),
+    }
+}
+
+// The entry of a pair of segments. `number` is the right one's.
+pub fn select(
+    file: &[u8],
+    index: &[u8],
+    sheet: &[u8],
+    by: Selection,
+    left: Segment,
+    right: Segment,
+    number: usize,
+) -> EntryPeriods
+    requires { ⌜
+        Searchable (now file) (now index) by ×
+        ((answerIn (sheetPlaces (now sheet)) ≡ SheetAnswer.Read (by .places)) ×
+        (Named (now sheet) left × (Named (now sheet) right × Numbered (now sheet) right number)))
+        ⌝ }
+    ensures { λ r.
+        ⌜
+        (r ≡ periodsOf
+        (selecting.entryOf (voices.voiceOf (now (file .entry)))
+        (selecting.folded (by .fold) (sheetOf (now (sheet .entry)) .segments))
+        (selecting.foldedSegment (by .fold) (segmentRead (now (sheet .entry)) left))
+        (selecting.foldedSegment (by .fold) (segmentRead (now (sheet .entry)) right)))) ×
+        (r .start + r .first + r .second ≤ by .voice .header .frames)
+        ⌝ }
+{
+    let left_name = voice::sections::bytes_at(sheet, left.name);
+    let right_name = voice::sections::bytes_at(sheet, right.name);
+    if !in_cluster(sheet, by.places, left, right, number) {
+        return select_plain(file, index, by, left_name, right_name);
+    }
+    match find_pair(file, index, by, left_name, right_name, true) {
+        FoundEntry::Found(e) => e,
+        FoundEntry::Missing => select_plain(file, index, by, left_name, right_name),
+    }
+}
