@@ -37,6 +37,7 @@ mul-last c = search needs
 array-read-last : tie.Need-array-read-last Inv-loop μ-loop
 array-read-last c = search needs
 
+-- that the history has 33 places is the rule of its field, the ninth of the state's
 loop-holds : tie.Need-loop-holds Inv-loop μ-loop
 loop-holds c =
     let a = c .before .before .before .before .before .before in (
