@@ -1,5 +1,5 @@
-//! `oracle marks`: reading a sheet and making its pitch marks, beside document
-//! 01's reading and the Rust.
+//! `oracle marks`: reading a sheet, selecting its units and making its pitch
+//! marks, beside document 01's reading and the Rust.
 
 use crate::args::Args;
 use crate::call::{self, Ending, Join, Settings};
@@ -31,6 +31,7 @@ struct Counts {
     answers: [u64; 16],
     beside_rust: u64,
     not_asked: u64,
+    units: u64,
 }
 
 pub fn run(args: &Args) -> bool {
@@ -89,6 +90,7 @@ fn check(file: &[u8], bytes: &[u8], report: &mut Report, counts: &mut Counts) {
             let expected = marks(&sheet, rate);
             answered(bytes, rate, expected, report, counts);
             beside_rust(file, &sheet, bytes, rate, report, counts);
+            check_units(file, &sheet, bytes, report, counts);
         }
     }
 }
@@ -148,9 +150,43 @@ fn beside_rust(
     report.equal(&theirs, &found, || "the Rust's marks".to_string());
 }
 
+/// The units, folded and not, are the Rust's; one unit more than there is room
+/// for is 13.
+fn check_units(
+    file: &[u8],
+    sheet: &Sheet,
+    bytes: &[u8],
+    report: &mut Report,
+    counts: &mut Counts,
+) {
+    let Parsed::Voice(rust) = reference::parse(file) else {
+        return;
+    };
+    for fold in [false, true] {
+        let mut settings = Settings::new(Join::Modified);
+        settings.fold = fold;
+        let utt = reference::prepared(sheet, settings);
+        let theirs: Vec<[usize; 3]> = access::select_units(&rust, &utt)
+            .iter()
+            .map(|unit| [unit.first_period, unit.last_period, unit.target_end])
+            .collect();
+        let room = theirs.len();
+        counts.units += room as u64;
+        let ours = probe_call::units(file, bytes, fold, room);
+        report.equal(&Ok(theirs), &ours, || "units".to_string());
+        if room > 0 {
+            let short = probe_call::units(file, bytes, fold, room - 1);
+            report.equal(&Err(SHORT_BUFFER as usize), &short, || "units, one short".to_string());
+        }
+    }
+}
+
 fn print(seed: u64, cases: u64, report: &Report, counts: &Counts) {
     println!("oracle marks: seed {seed}, {cases} voices");
-    println!("  sheets: {}, marks: {}", counts.sheets, counts.marks);
+    println!(
+        "  sheets: {}, marks: {}, units: {}",
+        counts.sheets, counts.marks, counts.units
+    );
     let answers: Vec<String> = counts
         .answers
         .iter()

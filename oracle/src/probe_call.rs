@@ -8,6 +8,40 @@ unsafe extern "C" {
         marks: *mut u8,
         marks_len: usize,
     ) -> u32;
+    fn probe_units(
+        file: *const u8,
+        file_len: usize,
+        sheet: *const u8,
+        sheet_len: usize,
+        fold: u32,
+        out: *mut u8,
+        out_len: usize,
+    ) -> usize;
+}
+
+/// The units of a call, or the answer where it is no count: first period, the
+/// period after the last, target end.
+pub fn units(file: &[u8], sheet: &[u8], fold: bool, room: usize) -> Result<Vec<[usize; 3]>, usize> {
+    let mut out = vec![0; 24 * room];
+    let (start, length) = (out.as_mut_ptr(), out.len());
+    // SAFETY: slices of their lengths that do not overlap.
+    let answer = unsafe {
+        probe_units(
+            file.as_ptr(),
+            file.len(),
+            sheet.as_ptr(),
+            sheet.len(),
+            fold.into(),
+            start,
+            length,
+        )
+    };
+    if answer % 16 != 0 {
+        return Err(answer);
+    }
+    let word = |eight: &[u8]| u64::from_le_bytes(eight.try_into().unwrap_or_default()) as usize;
+    let unit = |bytes: &[u8]| [word(&bytes[..8]), word(&bytes[8..16]), word(&bytes[16..])];
+    Ok(out.chunks(24).take(answer / 16).map(unit).collect())
 }
 
 /// The pitch marks, as far as a buffer of `room` bytes goes, or the number of

@@ -1,12 +1,20 @@
-// Pitch marks, exported so that the comparison with the Rust can read them. A refusal is
+// Units and pitch marks, exported so that the comparison with the Rust can read them. A refusal is
 // answered by its number, anything else by 16 times a count.
 ghost use mathlib.Core.Path.{_≡_};
+ghost use Prim.Native.Nat.{_+_, _*_, _<_, _≤_};
+ghost use lib.ListN.{length};
 ghost use Rattle.sheet.specs.Places.{sheetPlaces, answerIn};
 ghost use Rattle.sheet.specs.declared.SheetAnswer.the-variants as SheetAnswer;
+ghost use Rattle.voice.specs.Opening.{IsOpen};
+ghost use Rattle.units.specs.Asked.{Searchable};
 use marks::CheckedMarks;
 use refusal::Refusal;
 use sheet::Places;
 use sheet::SheetAnswer;
+use units::Selection;
+use units::Unit;
+use voice::DiphoneVoice;
+use voice::Opened;
 
 fn store_pitch_marks(sheet: &[u8], places: Places, rate: u32, marks: &mut [u8]) -> u32
     requires { ⌜ answerIn (sheetPlaces (now sheet)) ≡ SheetAnswer.Read places ⌝ }
@@ -29,5 +37,73 @@ pub extern "C" fn probe_pitch_marks(sheet: &[u8], rate: u32, marks: &mut [u8]) -
     match sheet::read_sheet(sheet) {
         SheetAnswer::Refused(cause) => refusal::number(cause),
         SheetAnswer::Read(places) => store_pitch_marks(sheet, places, rate, marks),
+    }
+}
+
+// Stores unit n: its first period, the period after its last, and its target end, 8 bytes each.
+fn put_unit(out: &mut [u8], n: usize, unit: Unit)
+    requires { ⌜ 24 * n + 24 ≤ length (now out) ⌝ }
+    ensures { λ _. ⌜ length (now (out .exit)) ≡ length (now (out .entry)) ⌝ }
+{
+    base::bytes::put_u64(out, 3 * n, unit.first_period as u64);
+    base::bytes::put_u64(out, 3 * n + 1, unit.last_period as u64);
+    base::bytes::put_u64(out, 3 * n + 2, unit.target_end as u64);
+}
+
+fn store_units(file: &[u8], index: &[u8], sheet: &[u8], by: Selection, out: &mut [u8]) -> usize
+    requires { ⌜
+        Searchable (now file) (now index) by ×
+        (answerIn (sheetPlaces (now sheet)) ≡ SheetAnswer.Read (by .places))
+        ⌝ }
+{
+    let places = by.places;
+    let segments = places.segments;
+    if segments.count == 0 {
+        return 0;
+    }
+    let mut walk = units::step::first_unit(sheet, places);
+    let mut n = 0;
+    while units::step::has_unit(walk) {
+        if out.len() / 24 <= n {
+            return 13;
+        }
+        let step = units::step::next_unit(file, index, sheet, by, walk);
+        put_unit(out, n, step.unit);
+        walk = step.walk;
+        n += 1;
+    }
+    16 * n
+}
+
+// By entries in file order: the way that needs no index.
+fn units_of(
+    file: &[u8],
+    d: DiphoneVoice,
+    sheet: &[u8],
+    places: Places,
+    fold: bool,
+    out: &mut [u8],
+) -> usize
+    requires { ⌜ IsOpen (now file) d × (answerIn (sheetPlaces (now sheet)) ≡ SheetAnswer.Read places) ⌝ }
+{
+    let by = Selection {
+        voice: d,
+        sorted: false,
+        places: places,
+        fold: fold,
+    };
+    let none = [0u8; 1];
+    store_units(file, &none, sheet, by, out)
+}
+
+// The units of a sheet on a voice; 0 where there is a refusal.
+#[no_mangle]
+pub extern "C" fn probe_units(file: &[u8], sheet: &[u8], fold: u32, out: &mut [u8]) -> usize {
+    match opening::check(file) {
+        Opened::Refused(_) => 0,
+        Opened::Open(d) => match sheet::read_sheet(sheet) {
+            SheetAnswer::Refused(_) => 0,
+            SheetAnswer::Read(places) => units_of(file, d, sheet, places, fold != 0, out),
+        },
     }
 }

@@ -1,0 +1,21 @@
+use mathlib.Core.Path.{sym}
+use mathlib.Core.Bool.{true≢false}
+use borrow.Author.Needs.{needs}
+use Rattle.probe_call.proofs.units_of.Statement.{statement}
+use Rattle.probe_call.proofs.units_of.Tie as tie
+
+slice-aggregate-store-units : tie.Need-slice-aggregate-store-units
+slice-aggregate-store-units c = search needs
+
+store-units-requires : tie.Need-store-units-requires
+store-units-requires c κs = (record { opened = c .before .before .before .before .before .pre .0; filled = λ e. absurd (true≢false (sym e)) }, c .before .before .before .before .before .pre .1)
+
+same-length : tie.Need-same-length
+same-length c = search needs
+
+returns : tie.Need-returns
+returns c = search needs
+
+pub units-of-spec : {M : Type 1} → statement M
+units-of-spec =
+    tie.close (tie.spec slice-aggregate-store-units store-units-requires same-length returns)
