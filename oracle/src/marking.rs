@@ -32,6 +32,7 @@ struct Counts {
     beside_rust: u64,
     not_asked: u64,
     units: u64,
+    natural: u64,
 }
 
 pub fn run(args: &Args) -> bool {
@@ -91,6 +92,7 @@ fn check(file: &[u8], bytes: &[u8], report: &mut Report, counts: &mut Counts) {
             answered(bytes, rate, expected, report, counts);
             beside_rust(file, &sheet, bytes, rate, report, counts);
             check_units(file, &sheet, bytes, report, counts);
+            check_natural(file, &sheet, bytes, report, counts);
         }
     }
 }
@@ -181,11 +183,40 @@ fn check_units(
     }
 }
 
+/// The simple join's marks: those of document 01, and where they are not
+/// refused the Rust's.
+fn check_natural(
+    file: &[u8],
+    sheet: &Sheet,
+    bytes: &[u8],
+    report: &mut Report,
+    counts: &mut Counts,
+) {
+    let Ok(voice) = voicefile::open(file) else {
+        return;
+    };
+    let settings = Settings::new(Join::Simple);
+    let expected = call::marks(&voice, sheet, settings);
+    let number = expected.clone().map_err(|refusal| refusal.number() as u32);
+    let found = probe_call::natural_marks(file, bytes, false, ROOM);
+    report.equal(&number, &found, || "the simple join's marks".to_string());
+    let (Ok(marks), Parsed::Voice(rust)) = (expected, reference::parse(file)) else {
+        return;
+    };
+    counts.natural += marks.len() as u64;
+    let theirs = reference::fill(&rust, sheet, settings).marks;
+    report.equal(&theirs, &marks, || "the Rust's marks, simple join".to_string());
+    if !marks.is_empty() {
+        let short = probe_call::natural_marks(file, bytes, false, 4 * marks.len() - 1);
+        report.equal(&Err(SHORT_BUFFER), &short, || "simple join, one short".to_string());
+    }
+}
+
 fn print(seed: u64, cases: u64, report: &Report, counts: &Counts) {
     println!("oracle marks: seed {seed}, {cases} voices");
     println!(
-        "  sheets: {}, marks: {}, units: {}",
-        counts.sheets, counts.marks, counts.units
+        "  sheets: {}, marks: {}, units: {}, marks of the simple join: {}",
+        counts.sheets, counts.marks, counts.units, counts.natural
     );
     let answers: Vec<String> = counts
         .answers

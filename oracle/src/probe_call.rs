@@ -8,6 +8,15 @@ unsafe extern "C" {
         marks: *mut u8,
         marks_len: usize,
     ) -> u32;
+    fn probe_natural_marks(
+        file: *const u8,
+        file_len: usize,
+        sheet: *const u8,
+        sheet_len: usize,
+        fold: u32,
+        marks: *mut u8,
+        marks_len: usize,
+    ) -> u32;
     fn probe_units(
         file: *const u8,
         file_len: usize,
@@ -67,4 +76,26 @@ pub fn pitch_marks(sheet: &[u8], rate: u32, room: usize) -> (Result<Vec<usize>, 
 fn words(bytes: &[u8]) -> Vec<usize> {
     let word = |four: &[u8]| u32::from_le_bytes(four.try_into().unwrap_or_default()) as usize;
     bytes.chunks(4).map(word).collect()
+}
+
+/// The marks of the simple join, or the number of the refusal.
+pub fn natural_marks(file: &[u8], sheet: &[u8], fold: bool, room: usize) -> Result<Vec<usize>, u32> {
+    let mut marks = vec![0; room];
+    let (out, length) = (marks.as_mut_ptr(), marks.len());
+    // SAFETY: slices of their lengths that do not overlap.
+    let answer = unsafe {
+        probe_natural_marks(
+            file.as_ptr(),
+            file.len(),
+            sheet.as_ptr(),
+            sheet.len(),
+            fold.into(),
+            out,
+            length,
+        )
+    };
+    match answer % 16 {
+        0 => Ok(words(&marks[..answer as usize / 4])),
+        _ => Err(answer),
+    }
 }

@@ -1,1 +1,2 @@
--- The root of probe_call's definitions: there are none.
+-- The root of probe_call's definitions.
+pub mod Natural

@@ -6,8 +6,12 @@ ghost use lib.ListN.{length};
 ghost use Rattle.sheet.specs.Places.{sheetPlaces, answerIn};
 ghost use Rattle.sheet.specs.declared.SheetAnswer.the-variants as SheetAnswer;
 ghost use Rattle.voice.specs.Opening.{IsOpen};
+ghost use mathlib.Core.Bool.{false};
 ghost use Rattle.units.specs.Asked.{Searchable};
+ghost use Rattle.units.specs.Units.{Inside};
+ghost use Rattle.probe_call.specs.Natural.{Goes};
 use marks::CheckedMarks;
+use marks::UnitMarks;
 use refusal::Refusal;
 use sheet::Places;
 use sheet::SheetAnswer;
@@ -104,6 +108,90 @@ pub extern "C" fn probe_units(file: &[u8], sheet: &[u8], fold: u32, out: &mut [u
         Opened::Open(d) => match sheet::read_sheet(sheet) {
             SheetAnswer::Refused(_) => 0,
             SheetAnswer::Read(places) => units_of(file, d, sheet, places, fold != 0, out),
+        },
+    }
+}
+
+// The natural marks of one unit, stored after those of the units before it; `left` of 65,536 marks
+// are still allowed.
+fn store_natural(
+    file: &[u8],
+    d: DiphoneVoice,
+    unit: Unit,
+    place: usize,
+    left: usize,
+    marks: &mut [u8],
+) -> UnitMarks
+    requires { ⌜
+        IsOpen (now file) d × (Inside (d .header .frames) unit × ((place ≤ 16777215) × (left ≤ 65536)))
+        ⌝ }
+    ensures { λ r. ⌜ (length (now (marks .exit)) ≡ length (now (marks .entry))) × Goes left r ⌝ }
+{
+    let first = unit.first_period;
+    let last = unit.last_period;
+    match marks::natural::check_unit_marks(file, d, place, first, last, left) {
+        UnitMarks::Refused(cause) => UnitMarks::Refused(cause),
+        UnitMarks::To(end, after) => {
+            let index = 65536 - left;
+            if marks.len() / 4 < index + (last - first) {
+                return UnitMarks::Refused(Refusal::ShortBuffer);
+            }
+            marks::natural::store_unit_marks(file, d, place, first, last, index, marks);
+            UnitMarks::To(end, after)
+        }
+    }
+}
+
+fn store_natural_marks(file: &[u8], sheet: &[u8], by: Selection, marks: &mut [u8]) -> u32
+    requires { ⌜
+        (IsOpen (now file) (by .voice) × (by .sorted ≡ false)) ×
+        (answerIn (sheetPlaces (now sheet)) ≡ SheetAnswer.Read (by .places))
+        ⌝ }
+{
+    let places = by.places;
+    let segments = places.segments;
+    if segments.count == 0 {
+        return 0;
+    }
+    let none = [0u8; 1];
+    let mut walk = units::step::first_unit(sheet, places);
+    let mut place = 0;
+    let mut left = 65536;
+    while units::step::has_unit(walk) {
+        let step = units::step::next_unit(file, &none, sheet, by, walk);
+        match store_natural(file, by.voice, step.unit, place, left, marks) {
+            UnitMarks::Refused(cause) => return refusal::number(cause),
+            UnitMarks::To(end, after) => {
+                place = end;
+                left = after;
+            }
+        }
+        walk = step.walk;
+    }
+    16 * ((65536 - left) as u32)
+}
+
+// The marks of the simple join, four bytes each; 0 where the voice or the sheet is refused.
+#[no_mangle]
+pub extern "C" fn probe_natural_marks(
+    file: &[u8],
+    sheet: &[u8],
+    fold: u32,
+    marks: &mut [u8],
+) -> u32 {
+    match opening::check(file) {
+        Opened::Refused(_) => 0,
+        Opened::Open(d) => match sheet::read_sheet(sheet) {
+            SheetAnswer::Refused(_) => 0,
+            SheetAnswer::Read(places) => {
+                let by = Selection {
+                    voice: d,
+                    sorted: false,
+                    places: places,
+                    fold: fold != 0,
+                };
+                store_natural_marks(file, sheet, by, marks)
+            }
         },
     }
 }
