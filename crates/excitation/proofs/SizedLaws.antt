@@ -1,8 +1,9 @@
 -- What every taken period is: it has a row of the order, and as many bytes as its size says; the row's values have 16 bits, and the size 32.
-use mathlib.Core.Path.{_≡_, refl}
+use mathlib.Core.Path.{_≡_, refl, sym, _∙_}
 use mathlib.Core.Bool.{Bool, true, false}
 use mathlib.Core.List.{List, [], _∷_, _++_, map}
 use Prim.Native.Nat.{ℕ, _+_, _-_, _*_, _/_, _^_, _≤_, _<_}
+use native.Mathlib.Nat.{zero-mul, suc-mul}
 use native.Mathlib.Omega.{arith}
 use borrow.Author.Tests.{ltb-true, ltb-false}
 use lib.Dec.{leb, ltb}
@@ -22,7 +23,7 @@ use Rattle.units.specs.declared.Unit.{Unit}
 use Rattle.marks.proofs.LimitLaws.{Low}
 use Rattle.excitation.specs.Source.{sourceOf, centred}
 use Rattle.excitation.specs.Nearest.{nearestPeriod, paceOf, placeAfterSize}
-use Rattle.excitation.specs.Taken.{Period, periodOf, Taking, takeUnit, takenFrom, taken}
+use Rattle.excitation.specs.Taken.{Period, periodOf, Taking, takeUnit, takenFrom, taken, sizesOf, rowsOf, excitationOf}
 use Rattle.excitation.proofs.TakenLaws.{takeMark, twoMarks}
 
 -- ---- in general, from what every mark is
@@ -83,6 +84,23 @@ Sized order ps = Each (HasSize order) ps
 pub taken-sized : (v : Voice) (us : List Unit) (ms : List ℕ) → Sized (v .header .order) (taken v us ms)
 unfolding periodOf
 taken-sized v us ms = taken-all v (HasSize (v .header .order)) (λ size p. (length-row v p, length-centred size (sourceOf v p))) us ms
+
+-- all rows of the sizes are there
+pub rows-length : (order : ℕ) (ps : List Period) → Sized order ps → length (rowsOf ps) ≡ length (sizesOf ps) * order
+unfolding sizesOf rowsOf flat
+rows-length order [] s = sym (zero-mul order)
+rows-length order (p ∷ ps) (cons (l, m) s) =
+    length-append (p .row) (rowsOf ps) ∙ simp (l, rows-length order ps s, suc-mul) (omega arith)
+
+-- 'Taken sizes sum to the excitation length'
+abbrev pub total : List ℕ → ℕ
+total [] = 0
+total (n ∷ ns) = n + total ns
+
+pub sizes-total : (order : ℕ) (ps : List Period) → Sized order ps → total (sizesOf ps) ≡ length (excitationOf ps)
+unfolding sizesOf excitationOf flat
+sizes-total order [] s = refl
+sizes-total order (p ∷ ps) (cons (l, m) s) = rw (sizes-total order ps s, length-append) (omega arith)
 
 -- ---- bounds
 

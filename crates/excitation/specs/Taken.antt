@@ -1,15 +1,18 @@
 -- Document 01, 'Selecting and marking': 'Per unit, the marks not yet taken and not above the target end are taken in order.'
 use mathlib.Core.Bool.{true, false}
-use mathlib.Core.List.{List, [], _∷_, _++_}
+use mathlib.Core.List.{List, [], _∷_, _++_, map}
 use Prim.Native.Nat.{ℕ, _-_}
 use lib.Dec.{ltb, leb}
 use lib.IntN.{pos}
 use lib.ListN.{length}
 use lib.Ieee.{Float, fin}
+use Rattle.base.specs.Choice.{pick}
+use Rattle.base.specs.Buffers.{over, flat}
+use Rattle.voice.specs.Header.{codecOf}
 use Rattle.voice.specs.Voice.{Voice}
-use Rattle.voice.specs.Periods.{rowOf}
+use Rattle.voice.specs.Periods.{rowOf, residualOf}
 use Rattle.units.specs.declared.Unit.{Unit}
-use Rattle.excitation.specs.Source.{sourceOf, centred}
+use Rattle.excitation.specs.Source.{decodedBy, sourceOf, centred}
 use Rattle.excitation.specs.Nearest.{nearestPeriod, paceOf, placeAfterSize}
 
 -- a taken period: the number of the voice's period from 0, 'its mark less the mark before it', the row of order values q as stored, and its window of the excitation
@@ -50,3 +53,21 @@ takenFrom v endBefore mark (u ∷ us) ms =
 -- 'Fewer than two marks give zero periods'
 unfoldable pub taken : Voice → List Unit → List ℕ → List Period
 taken v us ms = elim (ltb (length ms) 2) [ true ↦ [] | false ↦ takenFrom v 0 0 us ms ]
+
+-- ---- what the taken periods fill
+
+-- 'for the taken periods the sizes, the row of order values q each as stored, and the excitation'
+unfoldable pub sizesOf : List Period → List ℕ
+sizesOf ps = map (λ (p : Period). p .size) ps
+
+unfoldable pub rowsOf : List Period → List ℕ
+rowsOf ps = flat (λ (p : Period). p .row) ps
+
+unfoldable pub excitationOf : List Period → List ℕ
+excitationOf ps = flat (λ (p : Period). p .bytes) ps
+
+-- 'Each taken period of size above 0 is decoded to its front, over the one before': what of the decode buffer is written
+unfoldable pub decodedOver : Voice → List ℕ → List Period → List ℕ
+decodedOver v front [] = front
+decodedOver v front (p ∷ ps) =
+    decodedOver v (pick (ltb 0 (p .size)) (over (decodedBy (codecOf (v .header)) (residualOf v (p .number))) front) front) ps

@@ -17,17 +17,18 @@ use Rattle.refusal.specs.declared.Refusal.the-variants.{ShortSlice}
 use Rattle.voice.proofs.OpeningLaws.{Opens, opens}
 use Rattle.sheet.specs.Sheet.{Sheet}
 use Rattle.sheet.proofs.SheetLaws.{sheet-refers}
-use Rattle.excitation.proofs.SizedLaws.{taken-sized}
+use Rattle.excitation.specs.Taken.{sizesOf, rowsOf}
+use Rattle.excitation.proofs.SizedLaws.{taken-sized, rows-length}
 use Rattle.lpc.specs.declared.FilterState.{FilterState}
-use Rattle.diphone.specs.declared.Settings.{Settings}
-use Rattle.diphone.specs.Call.{planOf, periodsTaken, sizesOf, rowsOf, periodsOf, samplesOfCall}
-use Rattle.diphone.specs.Buffers.{callRefusal, checkRefusal, plannedOf, freshOf}
-use Rattle.diphone.specs.declared.Answer.the-variants.{Done, Refused}
-use Rattle.diphone.specs.Machine.{Shown, pulls, shows, machine, written, samplesWritten, bytesOfPeriods, given, SaysDone}
-use Rattle.diphone.proofs.PullLaws.{shows-done, fresh-machine}
-use Rattle.diphone.proofs.MachineLaws.{machine-writes, machine-at, machine-within, before-within, shows-done-all, shows-refused, machine-done-all}
-use Rattle.diphone.proofs.CallLaws.{periods-ahead, periods-equal, rows-length}
-use Rattle.diphone.proofs.FilledLaws.{call-planned, periods-low, periods-back}
+use Rattle.call.specs.declared.Settings.{Settings}
+use Rattle.call.specs.Call.{planOf, periodsTaken, periodsOf, samplesOfCall}
+use Rattle.call.specs.Buffers.{callRefusal, checkRefusal, plannedOf, freshOf}
+use Rattle.call.specs.declared.Answer.the-variants.{Done, Refused}
+use Rattle.call.specs.Machine.{Shown, pulls, shows, machine, written, samplesWritten, bytesOfPeriods, given, SaysDone}
+use Rattle.call.proofs.PullLaws.{shows-done, fresh-machine}
+use Rattle.call.proofs.MachineLaws.{machine-writes, machine-at, machine-within, before-within, shows-done-all, shows-refused, machine-done-all}
+use Rattle.call.proofs.CallLaws.{periods-ahead, periods-equal}
+use Rattle.call.proofs.FilledLaws.{call-planned, periods-low, periods-back}
 use Rattle.law.proofs.LentLaws.{lentTaken, lent-filled}
 use Rattle.law.specs.SpokenCall.{SpokenCall, voiceIn, sheetIn, periodsIn, samplesIn, pullsAfter, Longer, BeginsWith}
 use Rattle.law.specs.Demand3.{Demand3, answerAt, givenBefore}

@@ -1,10 +1,11 @@
 -- What the pulls of a spoken call are lent: the numbers of the periods taken, read from the bytes that the call left.
 use mathlib.Core.Path.{_≡_}
 use Rattle.voice.proofs.LowLaws.{lpc-bytes}
-use Rattle.diphone.specs.Call.{periodsTaken, sizesOf, rowsOf, excitationOf}
-use Rattle.diphone.specs.Buffers.{buffersAfter}
-use Rattle.diphone.specs.Pull.{Lent, lentOf}
-use Rattle.diphone.proofs.FilledLaws.{call-planned, sizes-front, rows-front, excitation-front}
+use Rattle.excitation.specs.Taken.{sizesOf, rowsOf, excitationOf}
+use Rattle.call.specs.Call.{periodsTaken}
+use Rattle.call.specs.Buffers.{buffersAfter}
+use Rattle.call.specs.Pull.{Lent, lentOf}
+use Rattle.call.proofs.FilledLaws.{call-planned, sizes-front, rows-front, excitation-front}
 use Rattle.law.specs.SpokenCall.{SpokenCall, voiceIn, sheetIn, lentAfter}
 
 -- the sizes, rows and excitation of the periods taken

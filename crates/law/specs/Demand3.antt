@@ -6,9 +6,9 @@ use lib.ListN.{length, getD, take}
 use Rattle.base.specs.Buffers.{flat}
 use Rattle.refusal.specs.declared.Refusal.{Refusal}
 use Rattle.refusal.specs.declared.Refusal.the-variants.{ShortSlice}
-use Rattle.diphone.specs.declared.Answer.{Answer}
-use Rattle.diphone.specs.declared.Answer.the-variants.{Done, Refused}
-use Rattle.diphone.specs.Machine.{machine, written, samplesWritten, bytesOfPeriods, given, SaysDone}
+use Rattle.call.specs.declared.Answer.{Answer}
+use Rattle.call.specs.declared.Answer.the-variants.{Done, Refused}
+use Rattle.call.specs.Machine.{machine, written, samplesWritten, bytesOfPeriods, given, SaysDone}
 use Rattle.law.specs.SpokenCall.{SpokenCall, periodsIn, pullsAfter, Longer, BeginsWith}
 
 -- the answer of pull i of a list, counted from 0, and how many periods the pulls before it gave

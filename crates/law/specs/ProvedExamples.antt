@@ -26,11 +26,11 @@ use Rattle.excitation.specs.Nearest.{nearestPeriod}
 use Rattle.lpc.specs.declared.ResynthType.the-variants.{Fixed}
 use Rattle.lpc.specs.Filter.{Filter, outputs, samples, periodsFrom}
 use Rattle.lpc.specs.Fixed.{scaledBy, rowValue, divided, fixedFilter}
-use Rattle.diphone.specs.declared.JoinType.the-variants.{Simple}
-use Rattle.diphone.specs.declared.Settings.{Settings}
-use Rattle.diphone.specs.declared.Called.the-variants.{Spoken}
-use Rattle.diphone.specs.Call.{periodsOf}
-use Rattle.diphone.specs.Buffers.{Buffers, filled, plannedOf}
+use Rattle.call.specs.declared.JoinType.the-variants.{Simple}
+use Rattle.call.specs.declared.Settings.{Settings}
+use Rattle.call.specs.declared.Called.the-variants.{Spoken}
+use Rattle.call.specs.Call.{periodsOf}
+use Rattle.call.specs.Buffers.{Buffers, filled, plannedOf}
 
 -- ---- what the rows speak of
 

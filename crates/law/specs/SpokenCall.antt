@@ -12,11 +12,11 @@ use Rattle.voice.specs.Extends.{Extends}
 use Rattle.sheet.specs.Sheet.{Sheet, sheetOf}
 use Rattle.sheet.specs.Begins.{Begins}
 use Rattle.units.specs.Selecting.{firstTriedFound}
-use Rattle.diphone.specs.declared.Settings.{Settings}
-use Rattle.diphone.specs.Call.{periodsOf, samplesOfCall}
-use Rattle.diphone.specs.Buffers.{Buffers, callRefusal, summaryOf, plannedOf, buffersAfter}
-use Rattle.diphone.specs.Pull.{Lent, lentOf}
-use Rattle.diphone.specs.Machine.{Shown, pulls}
+use Rattle.call.specs.declared.Settings.{Settings}
+use Rattle.call.specs.Call.{periodsOf, samplesOfCall}
+use Rattle.call.specs.Buffers.{Buffers, callRefusal, summaryOf, plannedOf, buffersAfter}
+use Rattle.call.specs.Pull.{Lent, lentOf}
+use Rattle.call.specs.Machine.{Shown, pulls}
 
 -- the voice file, of bytes, and the sheet, the settings, the buffers as they were lent, and that the call was not refused
 pub record SpokenCall : Type 0 where

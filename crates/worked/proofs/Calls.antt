@@ -5,9 +5,9 @@ use mathlib.Core.List.{List, [], _∷_}
 use Prim.Native.Nat.{ℕ}
 use lib.IntN.{pos, negsuc}
 use Rattle.lpc.specs.declared.ResynthType.the-variants.{Fixed, Float}
-use Rattle.diphone.specs.declared.JoinType.the-variants.{None, Simple, ModifiedLpc}
-use Rattle.diphone.specs.declared.Settings.{Settings}
-use Rattle.diphone.specs.Buffers.{Buffers}
+use Rattle.call.specs.declared.JoinType.the-variants.{None, Simple, ModifiedLpc}
+use Rattle.call.specs.declared.Settings.{Settings}
+use Rattle.call.specs.Buffers.{Buffers}
 use Rattle.worked.specs.Tried.{tried}
 
 -- c88: spoken, no join: float, no fold, mu-law, sizes, order 1, exact buffers, 0 marks, 0 periods, 0 samples, 2 pulls

@@ -24,9 +24,9 @@ use Rattle.lpc.specs.Filter.{Part, cut}
 use Rattle.lpc.specs.State.{freshState, advanced, spoken, periodsBy}
 use Rattle.lpc.proofs.FilterLaws.{length-cut, length-by}
 use Rattle.lpc.proofs.StateLaws.{kept, Continues, continues-low, fresh-continues, Steps, steps}
-use Rattle.diphone.specs.declared.Answer.the-variants.{Given, Done, Refused}
-use Rattle.diphone.specs.Pull.{Lent, allGiven, possible, nextPart, leaves, pullOf}
-use Rattle.diphone.specs.Machine.{Shown, pulls, shows, machine}
+use Rattle.call.specs.declared.Answer.the-variants.{Given, Done, Refused}
+use Rattle.call.specs.Pull.{Lent, allGiven, possible, nextPart, leaves, pullOf}
+use Rattle.call.specs.Machine.{Shown, pulls, shows, machine}
 
 -- ---- the cases of a pull, and of the machine
 

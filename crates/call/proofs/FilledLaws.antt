@@ -22,16 +22,16 @@ use Rattle.units.specs.Units.{unitsOf}
 use Rattle.marks.specs.PitchMarks.{mostMarks}
 use Rattle.marks.specs.NaturalMarks.{naturalMarks}
 use Rattle.marks.proofs.LimitLaws.{Low, refusal-low, marks-low}
-use Rattle.excitation.specs.Taken.{Period}
-use Rattle.excitation.proofs.SizedLaws.{taken-sized, taken-sizes, taken-rows}
+use Rattle.excitation.specs.Taken.{Period, sizesOf, rowsOf, excitationOf}
+use Rattle.excitation.proofs.SizedLaws.{taken-sized, taken-sizes, taken-rows, rows-length}
 use Rattle.lpc.proofs.FilterLaws as filter
-use Rattle.diphone.specs.declared.JoinType.{JoinType}
-use Rattle.diphone.specs.declared.JoinType.the-variants.{None, Simple, ModifiedLpc}
-use Rattle.diphone.specs.declared.Settings.{Settings}
-use Rattle.diphone.specs.Call.{simplePlan, modifiedPlan, planBy, planOf, periodsTaken, sizesOf, rowsOf, excitationOf, partsOf, periodsOf}
-use Rattle.diphone.specs.Buffers.{Buffers, filled, checkRefusal, callRefusal, summaryOf}
-use Rattle.diphone.specs.Machine.{bytesOfPeriods}
-use Rattle.diphone.proofs.CallLaws.{twoSegments, rows-length}
+use Rattle.call.specs.declared.JoinType.{JoinType}
+use Rattle.call.specs.declared.JoinType.the-variants.{None, Simple, ModifiedLpc}
+use Rattle.call.specs.declared.Settings.{Settings}
+use Rattle.call.specs.Call.{simplePlan, modifiedPlan, planBy, planOf, periodsTaken, partsOf, periodsOf}
+use Rattle.call.specs.Buffers.{Buffers, filled, checkRefusal, callRefusal, summaryOf}
+use Rattle.call.specs.Machine.{bytesOfPeriods}
+use Rattle.call.proofs.CallLaws.{twoSegments}
 
 -- ---- the marks
 

@@ -15,9 +15,9 @@ use Rattle.voice.specs.Header.{inScale}
 use Rattle.lpc.specs.declared.FilterState.{FilterState}
 use Rattle.lpc.specs.Filter.{Part}
 use Rattle.lpc.specs.State.{advanced, spoken}
-use Rattle.diphone.specs.declared.Answer.{Answer}
-use Rattle.diphone.specs.declared.Answer.the-variants.{Given, Done, Refused}
-use Rattle.diphone.specs.declared.Pulled.{Pulled}
+use Rattle.call.specs.declared.Answer.{Answer}
+use Rattle.call.specs.declared.Answer.the-variants.{Given, Done, Refused}
+use Rattle.call.specs.declared.Pulled.{Pulled}
 
 -- what a pull is lent beside its slice: sizes, rows of values q and excitation, as numbers
 pub record Lent : Type 0 where

@@ -1,6 +1,6 @@
 -- Document 01: the call. What it gives is defined for every voice and sheet; what refuses it stands beside that.
 use mathlib.Core.Bool.{true, false}
-use mathlib.Core.List.{List, [], map}
+use mathlib.Core.List.{List, []}
 use mathlib.Core.Option.{Option, none}
 use Prim.Native.Nat.{ℕ}
 use lib.Dec.{ltb}
@@ -16,12 +16,12 @@ use Rattle.units.specs.Selecting.{folded}
 use Rattle.units.specs.Units.{unitsOf, endRefusal}
 use Rattle.marks.specs.PitchMarks.{pitchMarks, mostMarks}
 use Rattle.marks.specs.NaturalMarks.{naturalMarks, naturalUnits, markRefusal}
-use Rattle.excitation.specs.Taken.{Period, taken}
+use Rattle.excitation.specs.Taken.{Period, taken, sizesOf, rowsOf, excitationOf}
 use Rattle.lpc.specs.Filter.{Part, cut}
 use Rattle.lpc.specs.State.{periodsBy}
-use Rattle.diphone.specs.declared.JoinType.{JoinType}
-use Rattle.diphone.specs.declared.JoinType.the-variants.{None, Simple, ModifiedLpc}
-use Rattle.diphone.specs.declared.Settings.{Settings}
+use Rattle.call.specs.declared.JoinType.{JoinType}
+use Rattle.call.specs.declared.JoinType.the-variants.{None, Simple, ModifiedLpc}
+use Rattle.call.specs.declared.Settings.{Settings}
 
 -- ---- the units and the marks of a join
 
@@ -58,16 +58,6 @@ planOf v s o = elim (ltb (length (s .segments)) 2) [ true ↦ emptyPlan | false 
 
 unfoldable pub periodsTaken : Voice → Sheet → Settings → List Period
 periodsTaken v s o = taken v (planOf v s o .units) (planOf v s o .marks)
-
--- 'for the taken periods the sizes, the row of order values q each as stored, and the excitation'
-unfoldable pub sizesOf : List Period → List ℕ
-sizesOf ps = map (λ (p : Period). p .size) ps
-
-unfoldable pub rowsOf : List Period → List ℕ
-rowsOf ps = flat (λ (p : Period). p .row) ps
-
-unfoldable pub excitationOf : List Period → List ℕ
-excitationOf ps = flat (λ (p : Period). p .bytes) ps
 
 -- what the filter is lent, cut into periods
 abbrev pub partsOf : Voice → List Period → List Part

@@ -3,8 +3,7 @@ use mathlib.Core.Path.{_≡_, refl, sym, ap, _∙_}
 use mathlib.Core.Bool.{Bool, true, false}
 use mathlib.Core.List.{List, [], _∷_, map, map-append}
 use mathlib.Core.Option.{none}
-use Prim.Native.Nat.{ℕ, _+_, _*_, _≤_}
-use native.Mathlib.Nat.{zero-mul, suc-mul}
+use Prim.Native.Nat.{ℕ, _≤_}
 use native.Mathlib.Omega.{arith}
 use borrow.Author.Tests.{ltb-false, le-ltb}
 use lib.Dec.{ltb}
@@ -29,17 +28,17 @@ use Rattle.units.specs.Units.{unitsOf, endRefusal}
 use Rattle.units.proofs.UnitLaws as units
 use Rattle.units.proofs.UnitLaws.{Within}
 use Rattle.marks.proofs.MarkLaws as marks
-use Rattle.excitation.specs.Taken.{Period, taken}
+use Rattle.excitation.specs.Taken.{Period, taken, sizesOf, rowsOf, excitationOf}
 use Rattle.excitation.proofs.TakenLaws.{taken-append, taken-same}
-use Rattle.excitation.proofs.SizedLaws.{Sized, taken-sized}
+use Rattle.excitation.proofs.SizedLaws.{Sized, taken-sized, total, sizes-total}
 use Rattle.lpc.specs.declared.ResynthType.{ResynthType}
 use Rattle.lpc.specs.Filter.{Part, cut}
 use Rattle.lpc.specs.State.{periodsBy}
 use Rattle.lpc.proofs.FilterLaws.{by-append}
-use Rattle.diphone.specs.declared.JoinType.{JoinType}
-use Rattle.diphone.specs.declared.JoinType.the-variants.{None, Simple, ModifiedLpc}
-use Rattle.diphone.specs.declared.Settings.{Settings}
-use Rattle.diphone.specs.Call.{Plan, emptyPlan, simplePlan, modifiedPlan, planBy, planOf, periodsTaken, sizesOf, rowsOf, excitationOf, periodsOf}
+use Rattle.call.specs.declared.JoinType.{JoinType}
+use Rattle.call.specs.declared.JoinType.the-variants.{None, Simple, ModifiedLpc}
+use Rattle.call.specs.declared.Settings.{Settings}
+use Rattle.call.specs.Call.{Plan, emptyPlan, simplePlan, modifiedPlan, planBy, planOf, periodsTaken, periodsOf}
 
 -- ---- what a call fills, cut up again, is the periods taken
 
@@ -54,23 +53,6 @@ cut-filled order (p ∷ ps) (cons (l, m) s) =
     let bytes = flat (λ (p : Period). p .bytes) ps in
     rw (take-at (p .row) rows order l, drop-at (p .row) rows order l, take-at (p .bytes) bytes (p .size) m, drop-at (p .bytes) bytes (p .size) m)
     (ap (λ (q : List Part). partOf p ∷ q) (cut-filled order ps s))
-
--- all rows of the sizes are there
-pub rows-length : (order : ℕ) (ps : List Period) → Sized order ps → length (rowsOf ps) ≡ length (sizesOf ps) * order
-unfolding sizesOf rowsOf flat
-rows-length order [] s = sym (zero-mul order)
-rows-length order (p ∷ ps) (cons (l, m) s) =
-    length-append (p .row) (rowsOf ps) ∙ simp (l, rows-length order ps s, suc-mul) (omega arith)
-
--- 'Taken sizes sum to the excitation length'
-abbrev pub total : List ℕ → ℕ
-total [] = 0
-total (n ∷ ns) = n + total ns
-
-sizes-total : (order : ℕ) (ps : List Period) → Sized order ps → total (sizesOf ps) ≡ length (excitationOf ps)
-unfolding sizesOf excitationOf flat
-sizes-total order [] s = refl
-sizes-total order (p ∷ ps) (cons (l, m) s) = rw (sizes-total order ps s, length-append) (omega arith)
 
 pub taken-total : (v : Voice) (s : Sheet) (o : Settings) → total (sizesOf (periodsTaken v s o)) ≡ length (excitationOf (periodsTaken v s o))
 unfolding periodsTaken

@@ -1,4 +1,4 @@
--- Laws about diphone's definitions.
+-- Laws about the call's definitions.
 pub mod PullLaws
 pub mod MachineLaws
 pub mod CallLaws

@@ -1,4 +1,4 @@
--- The root of diphone's definitions.
+-- The root of the call's definitions.
 pub mod Call
 pub mod Buffers
 pub mod Pull

@@ -16,10 +16,10 @@ use Rattle.base.proofs.BufferLaws.{take-over, flat-append, length-flat}
 use Rattle.base.proofs.ByteLaws.{length-bytesOf}
 use Rattle.refusal.specs.declared.Refusal.{Refusal}
 use Rattle.refusal.specs.declared.Refusal.the-variants.{ShortSlice}
-use Rattle.diphone.specs.declared.Answer.{Answer}
-use Rattle.diphone.specs.declared.Answer.the-variants.{Given, Done, Refused}
-use Rattle.diphone.specs.Machine.{Shown, shows, machine, gaveCount, written, bytesOfPeriods, given, SaysDone, there}
-use Rattle.diphone.proofs.PullLaws.{shows-done, shows-short, shows-gives, machine-done, machine-short, machine-gives}
+use Rattle.call.specs.declared.Answer.{Answer}
+use Rattle.call.specs.declared.Answer.the-variants.{Given, Done, Refused}
+use Rattle.call.specs.Machine.{Shown, shows, machine, gaveCount, written, bytesOfPeriods, given, SaysDone, there}
+use Rattle.call.proofs.PullLaws.{shows-done, shows-short, shows-gives, machine-done, machine-short, machine-gives}
 
 -- where some pull says done, but not the first
 after-refused : {r : Refusal} {d : List ℕ} {os : List Shown} → SaysDone (record { answer = Refused r; slice = d } ∷ os) → SaysDone os

@@ -16,6 +16,16 @@ pub struct Settings {
     pub fold: bool,
 }
 
+// How many elements each buffer of a call must have.
+pub struct Need {
+    pub entries: usize,
+    pub marks: usize,
+    pub periods: usize,
+    pub rows: usize,
+    pub excitation: usize,
+    pub decoded: usize,
+}
+
 // What a call that is not refused gives: samples per second, then how many of each.
 pub struct Summary {
     pub rate: usize,

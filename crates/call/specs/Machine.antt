@@ -8,9 +8,9 @@ use Rattle.base.specs.Buffers.{over, flat}
 use Rattle.base.specs.Bytes.{bytesOf, elements}
 use Rattle.refusal.specs.declared.Refusal.the-variants.{ShortSlice}
 use Rattle.lpc.specs.declared.FilterState.{FilterState}
-use Rattle.diphone.specs.declared.Answer.{Answer}
-use Rattle.diphone.specs.declared.Answer.the-variants.{Given, Done, Refused}
-use Rattle.diphone.specs.Pull.{Lent, pullOf}
+use Rattle.call.specs.declared.Answer.{Answer}
+use Rattle.call.specs.declared.Answer.the-variants.{Given, Done, Refused}
+use Rattle.call.specs.Pull.{Lent, pullOf}
 
 -- what one pull shows of itself: its answer, and every byte of its slice afterwards
 pub record Shown : Type 0 where

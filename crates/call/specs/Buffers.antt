@@ -3,8 +3,8 @@
 use mathlib.Core.Bool.{Bool, false}
 use mathlib.Core.List.{List, [], _∷_}
 use mathlib.Core.Option.{Option, none, some}
-use Prim.Native.Nat.{ℕ, _*_, _/_}
-use lib.Dec.{ltb, leb}
+use Prim.Native.Nat.{ℕ, _/_}
+use lib.Dec.{leb}
 use lib.IntN.{pos}
 use lib.ListN.{length}
 use lib.Ieee.{fin}
@@ -15,24 +15,21 @@ use Rattle.base.specs.Bytes.{bytesOf}
 use Rattle.refusal.specs.declared.Refusal.{Refusal}
 use Rattle.refusal.specs.declared.Refusal.the-variants.{ShortBuffer}
 use Rattle.refusal.specs.Number.{numberOf}
-use Rattle.voice.specs.declared.Codec.{Codec}
-use Rattle.voice.specs.declared.Codec.the-variants.{Ulaw, G721}
-use Rattle.voice.specs.Header.{codecOf}
 use Rattle.voice.specs.Voice.{Voice, voiceOf}
-use Rattle.voice.specs.Periods.{residualOf, decodeRoom}
-use Rattle.voice.specs.Opening.{openingRefusal, indexFits, indexBytes}
+use Rattle.voice.specs.Periods.{decodeRoom}
+use Rattle.voice.specs.Opening.{openingRefusal, indexBytes}
 use Rattle.sheet.specs.Sheet.{Sheet, sheetOf, sheetRefusal}
-use Rattle.excitation.specs.Source.{decodedBy}
-use Rattle.excitation.specs.Taken.{Period}
+use Rattle.excitation.specs.Taken.{sizesOf, rowsOf, excitationOf, decodedOver}
 use Rattle.lpc.specs.declared.ResynthType.the-variants.{Fixed}
 use Rattle.lpc.specs.declared.FilterState.{FilterState}
 use Rattle.lpc.specs.State.{freshState}
-use Rattle.diphone.specs.declared.Settings.{Settings}
-use Rattle.diphone.specs.declared.Summary.{Summary}
-use Rattle.diphone.specs.declared.Called.{Called}
-use Rattle.diphone.specs.declared.Called.the-variants.{Spoken, Refused}
-use Rattle.diphone.specs.declared.Planned.{Planned}
-use Rattle.diphone.specs.Call.{planOf, periodsTaken, sizesOf, rowsOf, excitationOf}
+use Rattle.call.specs.declared.Settings.{Settings}
+use Rattle.call.specs.declared.Need.{Need}
+use Rattle.call.specs.declared.Summary.{Summary}
+use Rattle.call.specs.declared.Called.{Called}
+use Rattle.call.specs.declared.Called.the-variants.{Spoken, Refused}
+use Rattle.call.specs.declared.Planned.{Planned}
+use Rattle.call.specs.Call.{planOf, periodsTaken}
 
 pub record Buffers : Type 0 where
   pub index : List ℕ
@@ -43,12 +40,6 @@ pub record Buffers : Type 0 where
   pub decoded : List ℕ
 
 -- ---- what a call fills
-
--- 'Each taken period of size above 0 is decoded to its front, over the one before': what of the decode buffer is written
-unfoldable pub decodedOver : Voice → List ℕ → List Period → List ℕ
-decodedOver v front [] = front
-decodedOver v front (p ∷ ps) =
-    decodedOver v (pick (ltb 0 (p .size)) (over (decodedBy (codecOf (v .header)) (residualOf v (p .number))) front) front) ps
 
 -- 'A call also fills the sorted index, every mark made, and for the taken periods the sizes, the row .. and the excitation': the bytes, buffer by buffer
 unfoldable pub filled : Voice → Sheet → Settings → Buffers
@@ -65,18 +56,33 @@ filled v s o =
 
 -- ---- 13: a buffer lent is shorter than stated
 
--- each buffer has as many whole elements as the call fills, and the decode buffer its room
-unfoldable pub fits : Voice → Sheet → Settings → Buffers → Bool
-fits v s o b =
+-- how many elements each buffer must have: as many as the call fills, and the decode buffer its room
+unfoldable pub needOf : Voice → Sheet → Settings → Need
+needOf v s o =
     let ps = periodsTaken v s o in
+    record {
+      entries = length (v .entries);
+      marks = length (planOf v s o .marks);
+      periods = length ps;
+      rows = length (rowsOf ps);
+      excitation = length (excitationOf ps);
+      decoded = decodeRoom v;
+    }
+
+-- each buffer has as many whole elements
+abbrev pub holds : Need → Buffers → Bool
+holds n b =
     every
-    (indexFits v (length (b .index))
-    ∷ leb (length (planOf v s o .marks)) (length (b .marks) / 4)
-    ∷ leb (length (sizesOf ps)) (length (b .sizes) / 4)
-    ∷ leb (length (rowsOf ps)) (length (b .rows) / 2)
-    ∷ leb (length (excitationOf ps)) (length (b .excitation))
-    ∷ leb (decodeRoom v) (length (b .decoded))
+    (leb (n .entries) (length (b .index) / 8)
+    ∷ leb (n .marks) (length (b .marks) / 4)
+    ∷ leb (n .periods) (length (b .sizes) / 4)
+    ∷ leb (n .rows) (length (b .rows) / 2)
+    ∷ leb (n .excitation) (length (b .excitation))
+    ∷ leb (n .decoded) (length (b .decoded))
     ∷ [])
+
+unfoldable pub fits : Voice → Sheet → Settings → Buffers → Bool
+fits v s o b = holds (needOf v s o) b
 
 -- ---- the call
 
