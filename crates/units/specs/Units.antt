@@ -45,10 +45,11 @@ listed p = p .first ∷ p .second ∷ []
 unfoldable pub unitsOfPair : ℕ → Entry → Float → Float → List Unit
 unitsOfPair rate e left right = listed (pairOf (periodsOf e) (endsOf rate left right))
 
--- a unit's periods are among so many
+-- a unit's periods are among so many, and at most 255: 'two halves u8'
 pub record Inside (frames : ℕ) (u : Unit) : Type 0 where
   pub rising : u .«first_period» ≤ u .«last_period»
   pub within : u .«last_period» ≤ frames
+  pub short : u .«last_period» ≤ u .«first_period» + 255
 
 -- the pair of `left` and the first of the segments after it, and so on; ss has all segments, to which followers refer
 unfoldable pub unitsFrom : Voice → List SegmentRead → SegmentRead → List SegmentRead → List Unit
