@@ -31,7 +31,17 @@ use Rattle.units.specs.Units.{endsOf, pairOf, listed, Inside, unitsOfPai
 use Rattle.units.specs.Walking.{listIn, segmentsAt, coming, Walking, unitsComing, StepsPair, withSecond, unitsLeft, manyLeft, UnitWalking, StartsUnits, StepsUnit}
 use Rattle.units.proofs.UnitLaws.{Within, nil, pair-within}
 use Rattle.units.proofs.SelectLaws.{selected-within, ShortHalves, selected-short}
-use Rattle.units.proofs.EndLaws.{folded-cons, folded-nil}
+
+-- the segments are folded one by one
+folded-cons : (fold : Bool) (s : SegmentRead) (ss : List SegmentRead) → folded fold (s ∷ ss) ≡ foldedSegment fold s ∷ folded fold ss
+unfolding folded
+folded-cons true s ss = refl
+folded-cons false s ss = refl
+
+pub folded-nil : (fold : Bool) → folded fold [] ≡ []
+unfolding folded
+folded-nil true = refl
+folded-nil false = refl
 
 -- an open voice has few frames
 pub few-frames : (file : List ℕ) (d : DiphoneVoice) → IsOpen file d → length file < 2 ^ 63 → d .header .frames < 2 ^ 63
