@@ -2,15 +2,15 @@
 use mathlib.Core.Path.{_≡_, refl, sym, ap, _∙_}
 use mathlib.Core.List.{List, [], _∷_, _++_, append-assoc, append-nil}
 use Prim.Native.Nat.{ℕ, zero, suc, _+_, _*_, _/_, _%_, _^_, _≤_, _<_}
-use native.Mathlib.Nat.{zero-add, suc-add, add-suc, add-zero, mul-zero, mul-suc, mul-comm, mul-assoc, mul-add, pow-suc, pow-succ', mod-one, mod-lt, mod-eq-of-lt, div-one, div-add-mod, div-div-eq-div-mul, add-mul-mod-self-left, mul-pos, mul-le-mul-left, lt-of-lt-of-le, mul-div-cancel-left}
+use native.Mathlib.Nat.{zero-add, suc-add, add-suc, add-zero, mul-zero, mul-suc, mul-comm, mul-assoc, mul-add, pow-suc, pow-succ', mod-one, mod-lt, mod-eq-of-lt, div-one, div-add-mod, div-div-eq-div-mul, add-mul-mod-self-left, mul-pos, mul-le-mul-left, lt-of-lt-of-le, mul-div-cancel-left, le-div-iff-mul-le}
 use native.Mathlib.Omega.{arith}
 use lib.ListN.{length, take, drop, getD}
 use lib.Seq.{sets, sets-eq, drop-cons, drop-at, drop-drop, take-add, length-take-le, getD-drop}
 use Rattle.base.specs.Buffers.{flat, upto}
 use Rattle.base.specs.Bytes.{Bytes, littleEndian, bytesOf, elements}
 use Rattle.base.specs.Lists.{part}
-use Rattle.base.proofs.BufferLaws.{sets-append, length-flat, flat-snoc, upto-is}
-use Rattle.base.proofs.ListLaws.{getD-part}
+use Rattle.base.proofs.BufferLaws.{sets-append, length-flat, flat-snoc, length-upto, getD-upto, upto-is}
+use Rattle.base.proofs.ListLaws.{getD-part, length-part}
 
 pub power-pos : (k : ℕ) → 0 < 256 ^ k
 power-pos zero = omega arith
@@ -133,6 +133,41 @@ elements-flat k ws hk small =
     let n : length (flat (bytesOf k) ws) / k ≡ length ws = ap (λ (m : ℕ). m / k) l ∙ mul-div-cancel-left (length ws) hk in
     rw n (upto-is (λ i. littleEndian k (flat (bytesOf k) ws) (k * i)) ws 0 (λ i h.
     ap (λ (s : List ℕ). littleEndian k s (k * i)) (sym (append-nil (flat (bytesOf k) ws))) ∙ littleEndian-flat k ws [] i h ∙ mod-eq-of-lt (small i)))
+
+-- ---- the elements of a list of bytes
+
+pub length-elements : (k : ℕ) (s : List ℕ) → length (elements k s) ≡ length s / k
+unfolding elements
+length-elements k s = length-upto (λ i. littleEndian k s (k * i)) (length s / k)
+
+pub getD-elements : (k : ℕ) (s : List ℕ) (i : ℕ) → i < length s / k → getD (elements k s) i 0 ≡ littleEndian k s (k * i)
+unfolding elements
+getD-elements k s i h = getD-upto (λ j. littleEndian k s (k * j)) (length s / k) i 0 h
+
+-- n elements from element `at` on are a part of the bytes
+module _ (k : ℕ) (s : List ℕ) (at n : ℕ) (positive : 0 < k) (h : k * (at + n) ≤ length s) where
+  room : k * at + k * n ≤ length s
+  room = rw (← mul-add k at n) h
+
+  fits : at + n ≤ length s / k
+  fits = le-div-iff-mul-le positive .1 (rw mul-comm h)
+
+  element-there : (i : ℕ) → i < n → littleEndian k (part s (k * at) (k * n)) (k * i) ≡ getD (part (elements k s) at n) i 0
+  element-there i q =
+      let l : k * suc i ≤ k * n = mul-le-mul-left k q in
+      let m : k * i + k ≤ k * n = rw mul-suc at l in
+      littleEndian-part k s (k * at) (k * n) (k * i) m
+      ∙ ap (littleEndian k s) (sym (mul-add k at i))
+      ∙ sym (getD-elements k s (at + i) (let f = fits in omega arith))
+      ∙ sym (getD-part (elements k s) at n i 0 q)
+
+  pub elements-part : elements k (part s (k * at) (k * n)) ≡ part (elements k s) at n
+  unfolding elements
+  elements-part =
+      let f : ℕ → ℕ = λ i. littleEndian k (part s (k * at) (k * n)) (k * i) in
+      let whole : length (part (elements k s) at n) ≡ n = length-part (elements k s) at n (rw length-elements fits) in
+      let count : length (part s (k * at) (k * n)) / k ≡ n = ap (λ (m : ℕ). m / k) (length-part s (k * at) (k * n) room) ∙ mul-div-cancel-left n positive in
+      ap (upto f) (count ∙ sym whole) ∙ upto-is f (part (elements k s) at n) 0 (λ i q. element-there i (rw whole at q))
 
 -- ---- what was read is written back
 

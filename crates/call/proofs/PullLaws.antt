@@ -16,7 +16,7 @@ use Rattle.base.specs.Buffers.{over, flat}
 use Rattle.base.specs.Bytes.{bytesOf}
 use Rattle.base.proofs.CaseLaws.{by-order}
 use Rattle.base.proofs.ListLaws.{every-nil, every-cons}
-use Rattle.refusal.specs.declared.Refusal.the-variants.{ShortSlice}
+use Rattle.refusal.specs.declared.Refusal.the-variants.{ShortSlice, BadState}
 use Rattle.voice.specs.Header.{inScale}
 use Rattle.lpc.specs.declared.ResynthType.{ResynthType}
 use Rattle.lpc.specs.declared.FilterState.{FilterState}
@@ -30,17 +30,21 @@ use Rattle.call.specs.Machine.{Shown, pulls, shows, machine}
 
 -- ---- the cases of a pull, and of the machine
 
+pub pull-impossible : (s : FilterState) (l : Lent) (d : List ℕ) → possible s l ≡ false → pullOf s l d ≡ leaves (Refused BadState) s d
+unfolding pullOf
+pull-impossible s l d p = rw p
+
 module _ (s : FilterState) (l : Lent) (d : List ℕ) (p : possible s l ≡ true) where
-  pull-done : s .period ≡ length (l .sizes) → pullOf s l d ≡ leaves Done s d
+  pub pull-done : s .period ≡ length (l .sizes) → pullOf s l d ≡ leaves Done s d
   unfolding pullOf
   pull-done q = rw (p, eq-eqb _ _ q)
 
   module _ (q : s .period ≡ length (l .sizes) → ⊥) where
-    pull-short : length d / 2 < length (nextPart s l .bytes) → pullOf s l d ≡ leaves (Refused ShortSlice) s d
+    pub pull-short : length d / 2 < length (nextPart s l .bytes) → pullOf s l d ≡ leaves (Refused ShortSlice) s d
     unfolding pullOf
     pull-short h = rw (p, ne-eqb _ _ q, lt-ltb _ _ h)
 
-    pull-gives : length (nextPart s l .bytes) ≤ length d / 2
+    pub pull-gives : length (nextPart s l .bytes) ≤ length d / 2
         → pullOf s l d ≡ leaves (Given (length (nextPart s l .bytes))) (advanced s (nextPart s l)) (over (flat (bytesOf 2) (spoken s (nextPart s l))) d)
     unfolding pullOf
     pull-gives h = rw (p, ne-eqb _ _ q, le-ltb _ _ h)

@@ -1,11 +1,12 @@
 -- Demand 3, over the definitions.
-use mathlib.Core.Path.{_≡_, sym, ap, subst, _∙_}
+use mathlib.Core.Path.{_≡_, refl, sym, ap, subst, _∙_}
 use mathlib.Core.List.{List, []}
-use mathlib.Core.Option.{none}
+use mathlib.Core.Option.{none as nothing}
 use Prim.Native.Nat.{ℕ, _*_, _/_, _≤_, _<_}
 use native.Mathlib.Nat.{le-of-eq, zero-add}
 use native.Mathlib.Omega.{arith}
 use lib.ListN.{length, getD, take}
+use denote.Ref.{now}
 use Rattle.base.specs.Lists.{Heads}
 use Rattle.base.specs.Buffers.{flat}
 use Rattle.base.specs.Bytes.{elements}
@@ -24,14 +25,16 @@ use Rattle.call.specs.declared.Settings.{Settings}
 use Rattle.call.specs.Call.{planOf, periodsTaken, periodsOf, samplesOfCall}
 use Rattle.call.specs.Buffers.{callRefusal, checkRefusal, plannedOf, freshOf}
 use Rattle.call.specs.declared.Answer.the-variants.{Done, Refused}
+use Rattle.call.specs.Pull.{lentOf, pullOf}
 use Rattle.call.specs.Machine.{Shown, pulls, shows, machine, written, samplesWritten, bytesOfPeriods, given, SaysDone}
 use Rattle.call.proofs.PullLaws.{shows-done, fresh-machine}
 use Rattle.call.proofs.MachineLaws.{machine-writes, machine-at, machine-within, before-within, shows-done-all, shows-refused, machine-done-all}
 use Rattle.call.proofs.CallLaws.{periods-ahead, periods-equal}
 use Rattle.call.proofs.FilledLaws.{call-planned, periods-low, periods-back}
 use Rattle.law.proofs.LentLaws.{lentTaken, lent-filled}
-use Rattle.law.specs.SpokenCall.{SpokenCall, voiceIn, sheetIn, periodsIn, samplesIn, pullsAfter, Longer, BeginsWith}
-use Rattle.law.specs.Demand3.{Demand3, answerAt, givenBefore}
+use Rattle.law.specs.SpokenCall.{SpokenCall, LentBytes, voiceIn, sheetIn, periodsIn, samplesIn, bytesAfter, readAs, stateAfter, pullsAfter, Longer, BeginsWith}
+use Rattle.law.specs.PullsMade.{PullsMade, none, more, MadeAfter}
+use Rattle.law.specs.Demand3.{WholeLists, Claim, Demand3, answerAt, givenBefore}
 
 -- ---- what a spoken call shows
 
@@ -40,7 +43,7 @@ module _ (c : SpokenCall) where
   unfolding callRefusal checkRefusal
   opened = opens (c .voiceFile) (next-none _ _ (next-none _ _ (c .notRefused) .0) .0)
 
-  planned : planOf (voiceIn c) (sheetIn c) (c .settings) .refusal ≡ none
+  planned : planOf (voiceIn c) (sheetIn c) (c .settings) .refusal ≡ nothing
   planned = call-planned (c .voiceFile) (c .sheetFile) (c .settings) (c .lent) (c .notRefused)
 
   fresh : plannedOf (c .voiceFile) (c .sheetFile) (c .settings) (c .lent) .state ≡ freshOf (voiceIn c) (c .settings)
@@ -114,26 +117,43 @@ extension-samples c d l =
 
 -- each pull of a list
 module _ (c : SpokenCall) (ds : List (List ℕ)) (i : ℕ) (h : i < length ds) where
-  at-pull : answerAt c ds i ≡ shows (periodsIn c) (givenBefore c ds i) (getD ds i []) .answer
+  abbrev os : List Shown
+  os = pullsAfter c ds
+
+  at-pull : answerAt os i ≡ shows (periodsIn c) (givenBefore os i) (getD ds i []) .answer
   at-pull =
       let ps = periodsIn c in
-      subst (λ (os : List Shown). getD os i (record { answer = Done; slice = [] }) .answer ≡ shows ps (given (take i os)) (getD ds i []) .answer) (sym (whole-lists c ds))
+      subst (λ (os : List Shown). answerAt os i ≡ shows ps (givenBefore os i) (getD ds i []) .answer) (sym (whole-lists c ds))
       (ap (λ (o : Shown). o .answer) (machine-at ps ds 0 i (record { answer = Done; slice = [] }) h)
       ∙ ap (λ (n : ℕ). shows ps n (getD ds i []) .answer) (zero-add (given (take i (machine ps 0 ds)))))
 
-  low : givenBefore c ds i ≤ length (periodsIn c)
+  low : givenBefore os i ≤ length (periodsIn c)
   low =
-      subst (λ (os : List Shown). given (take i os) ≤ length (periodsIn c)) (sym (whole-lists c ds))
+      subst (λ (os : List Shown). givenBefore os i ≤ length (periodsIn c)) (sym (whole-lists c ds))
       (let w = before-within (periodsIn c) ds 0 i (omega arith) in omega arith)
 
-  pull-done : answerAt c ds i ≡ Done → givenBefore c ds i ≡ length (periodsIn c)
-  pull-done e = shows-done-all (periodsIn c) (givenBefore c ds i) (getD ds i []) low (sym at-pull ∙ e)
+  pull-done : answerAt os i ≡ Done → givenBefore os i ≡ length (periodsIn c)
+  pull-done e = shows-done-all (periodsIn c) (givenBefore os i) (getD ds i []) low (sym at-pull ∙ e)
 
-  pull-all : givenBefore c ds i ≡ length (periodsIn c) → answerAt c ds i ≡ Done
-  pull-all q = at-pull ∙ ap (λ (o : Shown). o .answer) (shows-done (periodsIn c) (givenBefore c ds i) (getD ds i []) q)
+  pull-all : givenBefore os i ≡ length (periodsIn c) → answerAt os i ≡ Done
+  pull-all q = at-pull ∙ ap (λ (o : Shown). o .answer) (shows-done (periodsIn c) (givenBefore os i) (getD ds i []) q)
 
-  pull-refused : (r : Refusal) → answerAt c ds i ≡ Refused r → (r ≡ ShortSlice) × (length (getD ds i []) / 2 < length (getD (periodsIn c) (givenBefore c ds i) []))
-  pull-refused r e = shows-refused (periodsIn c) (givenBefore c ds i) (getD ds i []) r low (sym at-pull ∙ e)
+  pull-refused : (r : Refusal) → answerAt os i ≡ Refused r → (r ≡ ShortSlice) × (length (getD ds i []) / 2 < length (getD (periodsIn c) (givenBefore os i) []))
+  pull-refused r e = shows-refused (periodsIn c) (givenBefore os i) (getD ds i []) r low (sym at-pull ∙ e)
+
+lists : (c : SpokenCall) (ds : List (List ℕ)) → WholeLists c ds (pullsAfter c ds)
+lists c ds =
+    record {
+      machines = whole-lists c ds;
+      wrote = whole-lists-samples c ds;
+      bytes = whole-lists-written c ds;
+      within =
+          subst (λ (os : List Shown). given os ≤ length (periodsIn c)) (sym (whole-lists c ds))
+          (let w = machine-within (periodsIn c) ds 0 (omega arith) in omega arith);
+      done = pull-done c ds;
+      doneThen = pull-all c ds;
+      refused = pull-refused c ds;
+    }
 
 begun : (c d : SpokenCall) → Longer d c → (ds es : List (List ℕ)) → SaysDone (pullsAfter c ds) → SaysDone (pullsAfter d es)
     → BeginsWith d c (samplesWritten (pullsAfter d es)) (samplesWritten (pullsAfter c ds))
@@ -143,20 +163,31 @@ begun c d l ds es s t =
     let b = whole-lists-done d es t in
     record { heads = rw (a, b) (x .heads); equal = λ e. b ∙ x .equal e ∙ sym a }
 
-pub demand3 : Demand3
-demand3 =
+-- the claim, of all that shows what the definition does
+claim : (After : SpokenCall → List (List ℕ) → List Shown → Type 0) → ((c : SpokenCall) (ds : List (List ℕ)) (os : List Shown) → After c ds os → os ≡ pullsAfter c ds) → Claim After
+claim After same =
     record {
-      wholeLists = λ c ds.
-          record {
-            machines = whole-lists c ds;
-            wrote = whole-lists-samples c ds;
-            bytes = whole-lists-written c ds;
-            within =
-                subst (λ (os : List Shown). given os ≤ length (periodsIn c)) (sym (whole-lists c ds))
-                (let w = machine-within (periodsIn c) ds 0 (omega arith) in omega arith);
-            done = pull-done c ds;
-            doneThen = pull-all c ds;
-            refused = pull-refused c ds;
-          };
-      longer = begun;
+      wholeLists = λ c ds os a. subst (WholeLists c ds) (sym (same c ds os a)) (lists c ds);
+      longer = λ c d l ds es os ps a b s t.
+          let e = same c ds os a in
+          let f = same d es ps b in
+          subst (λ (o : List Shown). BeginsWith d c (samplesWritten ps) (samplesWritten o)) (sym e)
+          (subst (λ (o : List Shown). BeginsWith d c (samplesWritten o) (samplesWritten (pullsAfter c ds))) (sym f) (begun c d l ds es (subst SaysDone e s) (subst SaysDone f t)));
     }
+
+-- Any list of calls of `diphone::pull`, known by its contract, shows what the definition does.
+pub made-pulls : (b : LentBytes) (s : FilterState) (ds : List (List ℕ)) (os : List Shown) → PullsMade b s ds os → os ≡ pulls s (readAs b) ds
+unfolding pulls
+made-pulls b s _ _ none = refl
+made-pulls b s _ _ (more {ds} {os} κs _ sizes rows excitation samples r left hz hr he post m) =
+    let a : r ≡ pullOf s (lentOf (now sizes) (now rows) (now excitation)) (now samples) .pulled = post .0 in
+    let d : left ≡ pullOf s (lentOf (now sizes) (now rows) (now excitation)) (now samples) .slice = post .1 in
+    let i = made-pulls b (r .state) ds os m in
+    rw (i, d, a, hz, hr, he)
+
+made-after : (c : SpokenCall) (ds : List (List ℕ)) (os : List Shown) → MadeAfter c ds os → os ≡ pullsAfter c ds
+unfolding pullsAfter
+made-after c ds os m = made-pulls (bytesAfter c) (stateAfter c) ds os m
+
+pub demand3 : Demand3
+demand3 = record { defined = claim (λ c ds os. os ≡ pullsAfter c ds) (λ c ds os e. e); made = claim MadeAfter made-after }

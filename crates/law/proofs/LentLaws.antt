@@ -6,7 +6,7 @@ use Rattle.call.specs.Call.{periodsTaken}
 use Rattle.call.specs.Buffers.{buffersAfter}
 use Rattle.call.specs.Pull.{Lent, lentOf}
 use Rattle.call.proofs.FilledLaws.{call-planned, sizes-front, rows-front, excitation-front}
-use Rattle.law.specs.SpokenCall.{SpokenCall, voiceIn, sheetIn, lentAfter}
+use Rattle.law.specs.SpokenCall.{SpokenCall, voiceIn, sheetIn, bytesAfter, lentAfter}
 
 -- the sizes, rows and excitation of the periods taken
 abbrev pub lentTaken : SpokenCall → Lent
@@ -15,7 +15,7 @@ lentTaken c =
     record { sizes = sizesOf ps; rows = rowsOf ps; excitation = excitationOf ps }
 
 pub lent-filled : (c : SpokenCall) → lentAfter c ≡ lentTaken c
-unfolding lentAfter lentOf buffersAfter
+unfolding bytesAfter lentOf buffersAfter
 lent-filled c =
     let v = voiceIn c in
     let s = sheetIn c in

@@ -8,34 +8,41 @@ use Rattle.refusal.specs.declared.Refusal.{Refusal}
 use Rattle.refusal.specs.declared.Refusal.the-variants.{ShortSlice}
 use Rattle.call.specs.declared.Answer.{Answer}
 use Rattle.call.specs.declared.Answer.the-variants.{Done, Refused}
-use Rattle.call.specs.Machine.{machine, written, samplesWritten, bytesOfPeriods, given, SaysDone}
+use Rattle.call.specs.Machine.{Shown, machine, written, samplesWritten, bytesOfPeriods, given, SaysDone}
 use Rattle.law.specs.SpokenCall.{SpokenCall, periodsIn, pullsAfter, Longer, BeginsWith}
+use Rattle.law.specs.PullsMade.{MadeAfter}
 
 -- the answer of pull i of a list, counted from 0, and how many periods the pulls before it gave
-abbrev pub answerAt : SpokenCall → List (List ℕ) → ℕ → Answer
-answerAt c ds i = getD (pullsAfter c ds) i (record { answer = Done; slice = [] }) .answer
+abbrev pub answerAt : List Shown → ℕ → Answer
+answerAt os i = getD os i (record { answer = Done; slice = [] }) .answer
 
-abbrev pub givenBefore : SpokenCall → List (List ℕ) → ℕ → ℕ
-givenBefore c ds i = given (take i (pullsAfter c ds))
+abbrev pub givenBefore : List Shown → ℕ → ℕ
+givenBefore os i = given (take i os)
 
--- 'For every list of pulls in a spoken call, refused ones included and whatever sample slices they are lent, ..'
-pub record WholeLists (c : SpokenCall) (ds : List (List ℕ)) : Type 0 where
+-- 'For every list of pulls in a spoken call, refused ones included and whatever sample slices they are lent, ..': lent the slices ds, they showed os
+pub record WholeLists (c : SpokenCall) (ds : List (List ℕ)) (os : List Shown) : Type 0 where
   -- document 01: 'Which of these three each pull does, and every element of its slice afterwards, are the machine's'
-  pub machines : pullsAfter c ds ≡ machine (periodsIn c) 0 ds
+  pub machines : os ≡ machine (periodsIn c) 0 ds
   -- '.. what they wrote, joined in order, is the samples of as many periods as they gave, from the first on;'
-  pub wrote : samplesWritten (pullsAfter c ds) ≡ flat (λ (p : List ℕ). p) (take (given (pullsAfter c ds)) (periodsIn c))
-  pub bytes : written (pullsAfter c ds) ≡ bytesOfPeriods (take (given (pullsAfter c ds)) (periodsIn c))
-  pub within : given (pullsAfter c ds) ≤ length (periodsIn c)
+  pub wrote : samplesWritten os ≡ flat (λ (p : List ℕ). p) (take (given os) (periodsIn c))
+  pub bytes : written os ≡ bytesOfPeriods (take (given os) (periodsIn c))
+  pub within : given os ≤ length (periodsIn c)
   -- 'and a pull says done exactly when all were given before it,'
-  pub done : (i : ℕ) → i < length ds → answerAt c ds i ≡ Done → givenBefore c ds i ≡ length (periodsIn c)
-  pub doneThen : (i : ℕ) → i < length ds → givenBefore c ds i ≡ length (periodsIn c) → answerAt c ds i ≡ Done
+  pub done : (i : ℕ) → i < length ds → answerAt os i ≡ Done → givenBefore os i ≡ length (periodsIn c)
+  pub doneThen : (i : ℕ) → i < length ds → givenBefore os i ≡ length (periodsIn c) → answerAt os i ≡ Done
   -- 'and is refused only with a slice shorter than the next period.'
-  pub refused : (i : ℕ) → i < length ds → (r : Refusal) → answerAt c ds i ≡ Refused r
-      → (r ≡ ShortSlice) × (length (getD ds i []) / 2 < length (getD (periodsIn c) (givenBefore c ds i) []))
+  pub refused : (i : ℕ) → i < length ds → (r : Refusal) → answerAt os i ≡ Refused r
+      → (r ≡ ShortSlice) × (length (getD ds i []) / 2 < length (getD (periodsIn c) (givenBefore os i) []))
 
-pub record Demand3 : Type 0 where
-  pub wholeLists : (c : SpokenCall) (ds : List (List ℕ)) → WholeLists c ds
+-- The claim, where `After c ds os` says that after the call c pulls that were lent the slices ds showed os.
+pub record Claim (After : SpokenCall → List (List ℕ) → List Shown → Type 0) : Type 0 where
+  pub wholeLists : (c : SpokenCall) (ds : List (List ℕ)) (os : List Shown) → After c ds os → WholeLists c ds os
   -- 'Now take two spoken calls ..: whatever slices the pulls of either are lent, the samples that the first has written when it says done begin those
   -- that the second has written at its own done, and are all of them if the sheets are equal.'
-  pub longer : (c d : SpokenCall) → Longer d c → (ds es : List (List ℕ)) → SaysDone (pullsAfter c ds) → SaysDone (pullsAfter d es)
-      → BeginsWith d c (samplesWritten (pullsAfter d es)) (samplesWritten (pullsAfter c ds))
+  pub longer : (c d : SpokenCall) → Longer d c → (ds es : List (List ℕ)) (os ps : List Shown) → After c ds os → After d es ps → SaysDone os → SaysDone ps
+      → BeginsWith d c (samplesWritten ps) (samplesWritten os)
+
+-- Demand 3 over the definition of a pull, and over the contract of `diphone::pull` for any list of calls.
+pub record Demand3 : Type 0 where
+  pub defined : Claim (λ c ds os. os ≡ pullsAfter c ds)
+  pub made : Claim MadeAfter

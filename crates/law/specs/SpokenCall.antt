@@ -12,6 +12,7 @@ use Rattle.voice.specs.Extends.{Extends}
 use Rattle.sheet.specs.Sheet.{Sheet, sheetOf}
 use Rattle.sheet.specs.Begins.{Begins}
 use Rattle.units.specs.Selecting.{firstTriedFound}
+use Rattle.lpc.specs.declared.FilterState.{FilterState}
 use Rattle.call.specs.declared.Settings.{Settings}
 use Rattle.call.specs.Call.{periodsOf, samplesOfCall}
 use Rattle.call.specs.Buffers.{Buffers, callRefusal, summaryOf, plannedOf, buffersAfter}
@@ -40,16 +41,31 @@ periodsIn c = periodsOf (voiceIn c) (sheetIn c) (c .settings)
 abbrev pub samplesIn : SpokenCall → List ℕ
 samplesIn c = samplesOfCall (voiceIn c) (sheetIn c) (c .settings)
 
--- 'All are lent the sizes, rows and excitation just as far as the call filled them, unwritten meanwhile'
-unfoldable pub lentAfter : SpokenCall → Lent
-lentAfter c =
+-- 'All are lent the sizes, rows and excitation just as far as the call filled them, unwritten meanwhile': the bytes, and what these say
+pub record LentBytes : Type 0 where
+  pub sizes : List ℕ
+  pub rows : List ℕ
+  pub excitation : List ℕ
+
+unfoldable pub bytesAfter : SpokenCall → LentBytes
+bytesAfter c =
     let m = summaryOf (voiceIn c) (sheetIn c) (c .settings) in
     let b = buffersAfter (c .voiceFile) (c .sheetFile) (c .settings) (c .lent) in
-    lentOf (take (4 * m .periods) (b .sizes)) (take (2 * (m .periods * m .order)) (b .rows)) (take (m .samples) (b .excitation))
+    record { sizes = take (4 * m .periods) (b .sizes); rows = take (2 * (m .periods * m .order)) (b .rows); excitation = take (m .samples) (b .excitation) }
 
--- 'The first pull gets the call's fresh filter state, each other the state the last one returned or left', and each 'a sample slice of any length'
+abbrev pub readAs : LentBytes → Lent
+readAs b = lentOf (b .sizes) (b .rows) (b .excitation)
+
+abbrev pub lentAfter : SpokenCall → Lent
+lentAfter c = readAs (bytesAfter c)
+
+-- 'The first pull gets the call's fresh filter state ..'
+abbrev pub stateAfter : SpokenCall → FilterState
+stateAfter c = plannedOf (c .voiceFile) (c .sheetFile) (c .settings) (c .lent) .state
+
+-- '.. each other the state the last one returned or left', and each 'a sample slice of any length'
 unfoldable pub pullsAfter : SpokenCall → List (List ℕ) → List Shown
-pullsAfter c ds = pulls (plannedOf (c .voiceFile) (c .sheetFile) (c .settings) (c .lent) .state) (lentAfter c) ds
+pullsAfter c ds = pulls (stateAfter c) (lentAfter c) ds
 
 -- Demand 3: 'Now take two spoken calls under the same settings, let the second voice extend the first and the second sheet begin with all segments and
 -- targets of the first. If each pair of the first sheet finds its first-tried name in the first voice ..'

@@ -33,7 +33,7 @@ pub fn header_of(bytes: &[u8]) -> VoiceHeader
 }
 
 // Whether a scale is finite, from -16 to 16.
-fn in_scale(x: f32) -> bool
+pub fn in_scale(x: f32) -> bool
     ensures { λ r. ⌜ r ≡ headers.inScale x ⌝ }
 {
     if -16.0 <= x {

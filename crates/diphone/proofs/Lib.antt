@@ -1,0 +1,2 @@
+-- Laws for the steps of a pull.
+pub mod PullingLaws

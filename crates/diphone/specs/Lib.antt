@@ -1,0 +1,2 @@
+-- The root of diphone's definitions.
+pub mod Pulling
