@@ -75,7 +75,9 @@ fn is_of(rng: &mut Rng, kind: Kind, draft: &Draft) -> bool {
 fn settings(rng: &mut Rng) -> Settings {
     use Join::{Modified, None, Simple};
     Settings {
-        join: rng.pick(&[None, Simple, Simple, Simple, Modified, Modified, Modified, Modified]),
+        join: rng.pick(&[
+            None, Simple, Simple, Simple, Modified, Modified, Modified, Modified,
+        ]),
         filter: rng.pick(&[Filter::Fixed, Filter::Float]),
         fold: rng.once_in(2),
     }

@@ -71,7 +71,12 @@ impl Counts {
             let met = self.refused[number] > 0;
             report.check(met, || format!("number {number} was not reached"));
         }
-        let ends = [self.plans[SHORT_BUFFER], self.done, self.short_slices, self.impossible];
+        let ends = [
+            self.plans[SHORT_BUFFER],
+            self.done,
+            self.short_slices,
+            self.impossible,
+        ];
         report.check(ends.iter().all(|count| *count > 0), || {
             format!("13, done, 14, 15 were reached {ends:?} times")
         });
@@ -83,7 +88,12 @@ impl Counts {
             "  accepted: {}, of them {} with periods; join none {none}, simple {simple}, modified {modified}",
             self.accepted, self.speaking
         );
-        let names = [["fixed", "float"], ["fold off", "on"], ["mu-law", "G.721"], ["without sizes", "with"]];
+        let names = [
+            ["fixed", "float"],
+            ["fold off", "on"],
+            ["mu-law", "G.721"],
+            ["without sizes", "with"],
+        ];
         let half = |i: usize| {
             let ([a, b], [first, second]) = (names[i], self.halves[i]);
             format!("{a} {first}, {b} {second}")
@@ -100,12 +110,17 @@ impl Counts {
             "  pulls: {}, of them done {}, -14 {}, -15 {}",
             self.pulls, self.done, self.short_slices, self.impossible
         );
-        println!("  not compared, as the Rust would take long: {}", self.not_compared);
+        println!(
+            "  not compared, as the Rust would take long: {}",
+            self.not_compared
+        );
     }
 }
 
 fn numbered(counts: &ByNumber) -> String {
     let met = counts.iter().enumerate().filter(|(_, count)| **count > 0);
-    let shown: Vec<String> = met.map(|(number, count)| format!("{number}: {count}")).collect();
+    let shown: Vec<String> = met
+        .map(|(number, count)| format!("{number}: {count}"))
+        .collect();
     shown.join(", ")
 }

@@ -77,5 +77,7 @@ fn check(rng: &mut Rng, call: &Call, bench: &mut Bench) {
         }
     }
     let same = kept[0] == call.voice && kept[1] == call.sheet;
-    bench.report.check(same, || format!("{}: a file was written", call.about));
+    bench
+        .report
+        .check(same, || format!("{}: a file was written", call.about));
 }

@@ -31,14 +31,22 @@ pub fn impossible(rng: &mut Rng, state: &State, lent: &Lent) -> Vec<(&'static st
     add("filter 2", &|s| s.filter = 2);
     add("a filter far above", &|s| s.filter = u32::MAX);
     add("order 33", &|s| s.order = 33);
-    add("order 33 and its ring place", &|s| (s.order, s.ring_place) = (33, 33));
+    add("order 33 and its ring place", &|s| {
+        (s.order, s.ring_place) = (33, 33)
+    });
     add("an order far above", &|s| s.order = u32::MAX);
-    add("a ring place above the order", &|s| s.ring_place = s.order + 1);
+    add("a ring place above the order", &|s| {
+        s.ring_place = s.order + 1
+    });
     add("a ring place far above", &|s| s.ring_place = u32::MAX);
     add("a period past the sizes", &|s| s.period = periods + far);
     add("a period at the end of numbers", &|s| s.period = u64::MAX);
-    add("a sample place past the excitation", &|s| s.sample_place = samples + far);
-    add("a sample place at the end of numbers", &|s| s.sample_place = u64::MAX);
+    add("a sample place past the excitation", &|s| {
+        s.sample_place = samples + far
+    });
+    add("a sample place at the end of numbers", &|s| {
+        s.sample_place = u64::MAX
+    });
     add("coeff_min outside the limits", &|s| s.coeff_min = scale);
     add("coeff_range outside the limits", &|s| s.coeff_range = scale);
     add("coeff_min a NaN", &|s| s.coeff_min = 0x7F80_0001);

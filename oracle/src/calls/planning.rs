@@ -140,7 +140,9 @@ fn need(
     let answer = archive::need(request, &mut buffer) as usize;
     bench.counts.need(answer);
     let report = &mut bench.report;
-    report.equal(&number, &answer, || format!("{about}: need in {length} bytes"));
+    report.equal(&number, &answer, || {
+        format!("{about}: need in {length} bytes")
+    });
     report.check(left == buffer, || {
         let difference = left.difference(&buffer);
         format!("{about}: need, answer {number}: {difference}")
@@ -165,7 +167,9 @@ fn plan(
     let answer = archive::plan(request, &mut buffers) as usize;
     bench.counts.plan(answer);
     let report = &mut bench.report;
-    report.equal(&number, &answer, || format!("{about}: plan, buffers of {lengths:?} bytes"));
+    report.equal(&number, &answer, || {
+        format!("{about}: plan, buffers of {lengths:?} bytes")
+    });
     for (i, (expected, found)) in left.iter().zip(&buffers).enumerate() {
         report.check(expected == found, || {
             let difference = expected.difference(found);

@@ -52,8 +52,12 @@ impl Pulls<'_> {
         let before = self.state.clone();
         let (answer, _) = self.pull(rng, room, bench);
         let about = self.about;
-        bench.report.equal(&number, &answer, || format!("{about}: {what}"));
-        bench.report.check(before == self.state, || format!("{about}: {what}: state changed"));
+        bench
+            .report
+            .equal(&number, &answer, || format!("{about}: {what}"));
+        bench.report.check(before == self.state, || {
+            format!("{about}: {what}: state changed")
+        });
     }
 
     /// The next period, after slices that are too short for it.
@@ -69,7 +73,9 @@ impl Pulls<'_> {
         let samples: Vec<u8> = period.iter().flat_map(|s| s.to_le_bytes()).collect();
         let about = self.about;
         let report = &mut bench.report;
-        report.equal(&(period.len() as i64), &answer, || format!("{about}: samples given"));
+        report.equal(&(period.len() as i64), &answer, || {
+            format!("{about}: samples given")
+        });
         report.check(slice.bytes().starts_with(&samples), || {
             format!("{about}: the Rust's period of {} samples", period.len())
         });
@@ -83,13 +89,22 @@ impl Pulls<'_> {
         for (what, bytes) in odd_states::impossible(rng, &state, self.lent) {
             let longer = rng.pick(&[0, 0, 5]);
             // A state slice too short stays so.
-            let longer = if bytes.len() < archive::STATE_BYTES { 0 } else { longer };
+            let longer = if bytes.len() < archive::STATE_BYTES {
+                0
+            } else {
+                longer
+            };
             self.other(rng, &bytes, longer, self.lent)
                 .refuse(rng, 1200, IMPOSSIBLE, what, bench);
         }
         if let Some(cut) = odd_states::cut_rows(rng, &state, self.lent) {
-            self.other(rng, &state.bytes(), 0, &cut)
-                .refuse(rng, 1200, IMPOSSIBLE, "rows cut before the row's end", bench);
+            self.other(rng, &state.bytes(), 0, &cut).refuse(
+                rng,
+                1200,
+                IMPOSSIBLE,
+                "rows cut before the row's end",
+                bench,
+            );
         }
     }
 
@@ -105,7 +120,13 @@ impl Pulls<'_> {
         }
     }
 
-    fn other<'b>(&'b self, rng: &mut Rng, state: &[u8], longer: usize, lent: &'b Lent) -> Pulls<'b> {
+    fn other<'b>(
+        &'b self,
+        rng: &mut Rng,
+        state: &[u8],
+        longer: usize,
+        lent: &'b Lent,
+    ) -> Pulls<'b> {
         Pulls {
             lent,
             state: Guarded::holding(rng, state, longer),
@@ -143,8 +164,14 @@ pub fn all(
     let mut rowless = lent.clone();
     rowless.rows.clear();
     let state = pulls.state().bytes();
-    pulls
-        .other(rng, &state, 0, &rowless)
-        .refuse(rng, 2, DONE, "after the last period, without rows", bench);
-    bench.report.check(kept == *lent, || format!("{about}: a pull writes what it only reads"));
+    pulls.other(rng, &state, 0, &rowless).refuse(
+        rng,
+        2,
+        DONE,
+        "after the last period, without rows",
+        bench,
+    );
+    bench.report.check(kept == *lent, || {
+        format!("{about}: a pull writes what it only reads")
+    });
 }
