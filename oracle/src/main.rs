@@ -7,11 +7,14 @@ include!(concat!(env!("OUT_DIR"), "/root.rs"));
 
 mod args;
 mod call;
+#[cfg(feature = "calls")]
+mod calls;
 #[cfg(feature = "probe")]
 mod codecs;
 #[cfg(all(feature = "diphone_c", feature = "probe_voice"))]
 mod diphone_c;
 mod examples;
+mod expected;
 #[cfg(feature = "probe")]
 mod filters;
 #[cfg(feature = "probe")]
@@ -20,6 +23,7 @@ mod float_inputs;
 mod floats;
 mod gen;
 mod good;
+mod lent;
 #[cfg(feature = "probe_call")]
 mod marking;
 #[cfg(all(feature = "diphone_c", feature = "probe_voice"))]
@@ -57,7 +61,8 @@ const USAGE: &str = "usage:
   oracle filters [--seed N] [--count N]
   oracle openings [--seed N] [--from N] [--count N]
   oracle marks [--seed N] [--from N] [--count N]
-  oracle windows [--seed N] [--from N] [--count N]";
+  oracle windows [--seed N] [--from N] [--count N]
+  oracle calls [--seed N] [--from N] [--count N]";
 
 fn main() -> ExitCode {
     let words: Vec<String> = std::env::args().skip(1).collect();
@@ -91,6 +96,10 @@ fn main() -> ExitCode {
         "windows" => windows::run(&args),
         #[cfg(not(feature = "probe_take"))]
         "windows" => return usage("built without the feature probe_take"),
+        #[cfg(feature = "calls")]
+        "calls" => calls::run(&args),
+        #[cfg(not(feature = "calls"))]
+        "calls" => return usage("built without the feature calls"),
         other => return usage(&format!("unknown command {other}")),
     };
     match agreed {

@@ -159,7 +159,7 @@ fn read_header(data: &[u8]) -> Result<Header, Refusal> {
 }
 
 /// Finite and from -16 to 16. A NaN is in no range.
-fn is_scale(bits: u32) -> bool {
+pub fn is_scale(bits: u32) -> bool {
     (-MAX_SCALE..=MAX_SCALE).contains(&f32::from_bits(bits))
 }
 

@@ -1,10 +1,10 @@
 //! What a call is, in one line.
 
 use super::drafts::Draft;
-use super::expected::Expected;
 use super::kinds::Kind;
-use super::lent::Room;
 use crate::call::{Filter, Join};
+use crate::expected::Expected;
+use crate::lent::Room;
 use crate::voicefile;
 
 /// What a call is: its kind up to the colon, then the details.

@@ -1,9 +1,9 @@
 //! A call and what it must show, written as a statement in antt.
 
-use super::expected::Expected;
-use super::lent::{Buffers, NAMES};
 use super::Call;
 use crate::call::{Filter, Join, Settings};
+use crate::expected::Expected;
+use crate::lent::{Buffers, NAMES};
 use std::fmt::Display;
 
 /// The head of a file of statements, for a crate that uses crate `worked`.

@@ -1,12 +1,12 @@
 //! A call of each kind, before its buffers and slices are drawn.
 
 use super::kinds::Kind;
-use super::lent::{Room, NAMES};
 use crate::call::{Filter, Join, Settings};
 use crate::gen::damaged_calls::{self, entry, LabelledCall};
 use crate::gen::small::{self, Shape};
 use crate::gen::voices::{file, plain, with_extras, Vocabulary, VoiceSpec};
 use crate::gen::{damaged_sheets, damaged_voices, Labelled};
+use crate::lent::{Room, NAMES};
 use crate::refusal::Refusal;
 use crate::rng::Rng;
 use crate::sheet::{write, Segment, Sheet, Value};

@@ -1,8 +1,8 @@
 //! The kinds of calls that a run goes through.
 
-use super::expected::{Given, Most, Spoken, SHORT_BUFFER};
 use super::rounding;
 use crate::call::{Join, Settings, FILTERS};
+use crate::expected::{Given, Most, Spoken, SHORT_BUFFER};
 use crate::gen::damaged_voices::CAUSES;
 use crate::gen::small::Shape;
 use crate::refusal::Refusal;

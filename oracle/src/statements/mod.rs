@@ -3,19 +3,17 @@
 
 mod about;
 mod antt;
-mod drafts;
-mod expected;
-mod kinds;
-mod lent;
+pub mod drafts;
+pub mod kinds;
 mod rounding;
 
 use crate::args::Args;
 use crate::call::Settings;
+use crate::expected::{self, Expected, Given};
+use crate::lent::{self, Buffers};
 use crate::rng::Rng;
 use drafts::{Draft, Limits};
-use expected::{Expected, Given};
 use kinds::Kind;
-use lent::Buffers;
 
 /// Calls in a run that is not told otherwise.
 const CALLS: u64 = 30;

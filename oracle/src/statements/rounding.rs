@@ -1,6 +1,6 @@
 //! Calls of the float filter whose samples tell how its steps are rounded.
 
-use super::expected::Spoken;
+use crate::expected::Spoken;
 use crate::dsp;
 use crate::voicefile::{self, Header};
 

@@ -28,16 +28,23 @@ pub enum Room {
 pub fn lend(rng: &mut Rng, needed: &[usize; 6], room: Room) -> Option<Buffers> {
     let mut lent = Buffers::default();
     for (i, buffer) in lent.iter_mut().enumerate() {
-        let exact = needed[i] * WIDTHS[i];
-        let length = match room {
-            Room::Short(short) if short == i => exact.checked_sub(missing(rng, WIDTHS[i]))?,
-            Room::Exact => exact,
-            Room::Any => rng.below(12),
-            _ => exact + rng.pick(&[0, 1, WIDTHS[i], WIDTHS[i] + 3, 3 * WIDTHS[i] - 1]),
-        };
+        let length = length(rng, needed[i], WIDTHS[i], room, i)?;
         *buffer = filler(rng, length);
     }
     Some(lent)
+}
+
+/// The bytes of buffer `i`, which needs so many elements of a width. Nothing
+/// where it needs none and is to be too short.
+pub fn length(rng: &mut Rng, needed: usize, width: usize, room: Room, i: usize) -> Option<usize> {
+    let exact = needed * width;
+    let length = match room {
+        Room::Short(short) if short == i => exact.checked_sub(missing(rng, width))?,
+        Room::Exact => exact,
+        Room::Any => rng.below(12),
+        _ => exact + rng.pick(&[0, 1, width, width + 3, 3 * width - 1]),
+    };
+    Some(length)
 }
 
 /// One byte to one element.
@@ -47,7 +54,7 @@ fn missing(rng: &mut Rng, width: usize) -> usize {
 }
 
 /// Bytes other than 0 and 255, which a call itself often writes.
-fn filler(rng: &mut Rng, length: usize) -> Vec<u8> {
+pub fn filler(rng: &mut Rng, length: usize) -> Vec<u8> {
     (0..length).map(|_| rng.between(1, 254) as u8).collect()
 }
 

@@ -1,11 +1,11 @@
 //! What a call must show: where it is spoken by the Rust, where it is refused
 //! by document 01.
 
-use super::lent::{Buffers, WIDTHS};
 use crate::call::{self, Settings};
 use crate::diphone::access;
 use crate::diphone::DiphoneVoice;
 use crate::dsp;
+use crate::lent::{Buffers, WIDTHS};
 use crate::reference::{self, Filled, Fitness, Parsed};
 use crate::refusal::Refusal;
 use crate::sheet::{self, Sheet};
@@ -137,7 +137,7 @@ fn spoken(read: &Voice, rust: &DiphoneVoice, filled: &Filled, periods: Vec<Vec<i
 }
 
 /// Little-endian numbers of a width.
-fn packed(numbers: &[usize], width: usize) -> Vec<u8> {
+pub fn packed(numbers: &[usize], width: usize) -> Vec<u8> {
     let bytes = |number: &usize| number.to_le_bytes()[..width].to_vec();
     numbers.iter().flat_map(bytes).collect()
 }
@@ -193,7 +193,7 @@ fn taken_periods(read: &Voice, rust: &DiphoneVoice, filled: &Filled) -> Vec<usiz
 }
 
 /// A buffer whose front was filled.
-fn over(new: &[u8], old: &[u8]) -> Vec<u8> {
+pub fn over(new: &[u8], old: &[u8]) -> Vec<u8> {
     let rest = old.get(new.len()..).unwrap_or(&[]);
     [new, rest].concat()
 }

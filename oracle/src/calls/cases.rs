@@ -1,0 +1,164 @@
+//! The calls that are compared.
+
+use super::Call;
+use crate::call::{Filter, Join, Settings};
+use crate::expected::{given, Given, SHORT_BUFFER};
+use crate::gen::damaged_calls;
+use crate::gen::voices::{self, Extent};
+use crate::gen::{damaged_sheets, damaged_voices, sheets, small};
+use crate::rng::Rng;
+use crate::sheet::write;
+use crate::statements::drafts::{draft, Draft, Limits};
+use crate::statements::kinds::{self, Kind};
+
+/// Draws for one call of a kind before another is made instead.
+const MOST_DRAWS: usize = 300;
+
+/// Random voices and sheets that are damaged in every way.
+const DAMAGED_VOICES: u64 = 3;
+const DAMAGED_SHEETS: u64 = 6;
+
+/// Draws calls by their number.
+pub struct Generator {
+    kinds: Vec<Kind>,
+    limits: Limits,
+}
+
+impl Generator {
+    pub fn new() -> Generator {
+        let mut kinds = kinds::all();
+        // Many marks are among the calls at a limit.
+        kinds.retain(|kind| !matches!(kind, Kind::ManyMarks { .. }));
+        Generator {
+            kinds,
+            limits: Limits::new(),
+        }
+    }
+
+    /// Every other call is of any extent; the rest are small, of each kind in
+    /// turn.
+    pub fn call(&self, rng: &mut Rng, case: u64) -> Call {
+        let kind = self.kinds[(case / 2) as usize % self.kinds.len()];
+        let small = match case % 2 {
+            0 => None,
+            _ => self.small(rng, kind, case),
+        };
+        small.unwrap_or_else(|| good(rng, case))
+    }
+
+    fn small(&self, rng: &mut Rng, kind: Kind, case: u64) -> Option<Call> {
+        let draft = (0..MOST_DRAWS).find_map(|_| {
+            let draft = draft(rng, kind, &self.limits)?;
+            is_of(rng, kind, &draft).then_some(draft)
+        })?;
+        Some(Call {
+            about: format!("case {case}, {kind:?} {}", draft.reason),
+            voice: draft.voice,
+            sheet: draft.sheet,
+            settings: draft.settings,
+        })
+    }
+}
+
+/// Whether a call is of its kind. Its buffers are still to come.
+fn is_of(rng: &mut Rng, kind: Kind, draft: &Draft) -> bool {
+    let given = given(&draft.voice, &draft.sheet, draft.settings, kind.most());
+    let number = |given: &Given| match (kind, given) {
+        (_, Given::Refused(refusal)) => refusal.number(),
+        (Kind::Short(_), _) => SHORT_BUFFER,
+        _ => 0,
+    };
+    given.is_some_and(|given| kinds::is_of(rng, kind, &draft.voice, &given, number(&given)))
+}
+
+/// Mostly calls that speak.
+fn settings(rng: &mut Rng) -> Settings {
+    use Join::{Modified, None, Simple};
+    Settings {
+        join: rng.pick(&[
+            None, Simple, Simple, Simple, Modified, Modified, Modified, Modified,
+        ]),
+        filter: rng.pick(&[Filter::Fixed, Filter::Float]),
+        fold: rng.once_in(2),
+    }
+}
+
+fn good(rng: &mut Rng, case: u64) -> Call {
+    let words = voices::vocabulary(rng);
+    let covering = rng.once_in(2);
+    let spec = voices::voice(rng, &words, Extent::Any, covering);
+    let sheet = sheets::sheet(rng, &words, spec.header.rate);
+    Call {
+        about: format!("case {case}"),
+        voice: voices::file(&voices::with_extras(rng, &spec)),
+        sheet: write(&sheet),
+        settings: settings(rng),
+    }
+}
+
+/// A small good voice and sheet.
+fn small_good(rng: &mut Rng) -> Call {
+    let words = small::vocabulary(rng);
+    let shape = small::shape(rng);
+    let spec = small::voice(rng, &words, shape);
+    let sheet = small::sheet(rng, &words, spec.header.rate);
+    Call {
+        about: String::new(),
+        voice: voices::file(&spec.sections()),
+        sheet: write(&sheet),
+        settings: settings(rng),
+    }
+}
+
+/// Every damage of some voices, each with a sheet of any sort.
+pub fn unfit_voices(seed: u64, mut check: impl FnMut(&mut Rng, Call)) {
+    for case in 0..DAMAGED_VOICES {
+        let rng = &mut Rng::for_case(seed, 9_000_000 + case);
+        let voices = damaged_voices::of_random_voice(rng);
+        for voice in voices {
+            let mut call = small_good(rng);
+            call.voice = voice.case.bytes;
+            if rng.once_in(4) {
+                call.sheet.pop();
+            }
+            call.about = format!("damaged voice {case}, {}", voice.case.reason);
+            check(rng, call);
+        }
+    }
+}
+
+/// Every damage of some sheets, and sheets at their limits.
+pub fn unfit_sheets(seed: u64, mut check: impl FnMut(&mut Rng, Call)) {
+    for case in 0..DAMAGED_SHEETS {
+        let rng = &mut Rng::for_case(seed, 9_100_000 + case);
+        let words = small::vocabulary(rng);
+        let sheet = damaged_sheets::small(rng, &words.phones);
+        for damaged in damaged_sheets::of_sheet(&sheet) {
+            let mut call = small_good(rng);
+            call.sheet = damaged.bytes;
+            call.about = format!("damaged sheet {case}, {}", damaged.reason);
+            check(rng, call);
+        }
+    }
+    let rng = &mut Rng::for_case(seed, 9_200_000);
+    for limit in damaged_sheets::limits() {
+        let mut call = small_good(rng);
+        call.sheet = limit.bytes;
+        call.about = format!("sheet at a limit, {}", limit.reason);
+        check(rng, call);
+    }
+}
+
+/// Calls at the limits of slopes, marks and target ends.
+pub fn at_limits(seed: u64, mut check: impl FnMut(&mut Rng, Call)) {
+    let rng = &mut Rng::for_case(seed, 9_300_000);
+    for limit in damaged_calls::all() {
+        let call = Call {
+            about: format!("call at a limit, {}", limit.reason),
+            voice: limit.voice,
+            sheet: limit.sheet,
+            settings: limit.settings,
+        };
+        check(rng, call);
+    }
+}

@@ -1,0 +1,126 @@
+//! What a run of `oracle calls` met.
+
+use super::machine::{DONE, IMPOSSIBLE, SHORT_SLICE};
+use crate::call::{Filter, Settings, JOINS};
+use crate::expected::{Spoken, SHORT_BUFFER};
+use crate::report::Report;
+use crate::voicefile::Voice;
+
+/// By a number of document 01's table; 0 counts what is not refused.
+type ByNumber = [u64; SHORT_BUFFER + 1];
+
+#[derive(Default)]
+pub struct Counts {
+    accepted: u64,
+    joins: [u64; 3],
+    /// Fixed and float; fold off and on; mu-law and G.721; without and with
+    /// `sts.ressize`.
+    halves: [[u64; 2]; 4],
+    /// Those of the accepted calls that have a period.
+    speaking: u64,
+    refused: ByNumber,
+    needs: ByNumber,
+    plans: ByNumber,
+    marks: u64,
+    pub periods: u64,
+    pub samples: u64,
+    pulls: u64,
+    done: u64,
+    short_slices: u64,
+    impossible: u64,
+    /// Calls that the Rust would take too long for.
+    pub not_compared: u64,
+}
+
+impl Counts {
+    pub fn accepted(&mut self, settings: Settings, voice: &Voice, spoken: &Spoken) {
+        self.accepted += 1;
+        self.speaking += u64::from(!spoken.periods.is_empty());
+        self.marks += spoken.needed[1] as u64;
+        let join = JOINS.iter().position(|join| *join == settings.join);
+        self.joins[join.unwrap_or(0)] += 1;
+        let is_float = settings.filter == Filter::Float;
+        let second = [is_float, settings.fold, voice.is_g721(), voice.has_sizes()];
+        for (counts, second) in self.halves.iter_mut().zip(second) {
+            counts[usize::from(second)] += 1;
+        }
+    }
+
+    pub fn refused(&mut self, number: usize) {
+        self.refused[number] += 1;
+    }
+
+    pub fn need(&mut self, answer: usize) {
+        self.needs[answer.min(SHORT_BUFFER)] += 1;
+    }
+
+    pub fn plan(&mut self, answer: usize) {
+        self.plans[answer.min(SHORT_BUFFER)] += 1;
+    }
+
+    pub fn pull(&mut self, answer: i64) {
+        self.pulls += 1;
+        self.done += u64::from(answer == DONE);
+        self.short_slices += u64::from(answer == SHORT_SLICE);
+        self.impossible += u64::from(answer == IMPOSSIBLE);
+    }
+
+    /// Every number must have been met.
+    pub fn check_reached(&self, report: &mut Report) {
+        for number in 1..SHORT_BUFFER {
+            let met = self.refused[number] > 0;
+            report.check(met, || format!("number {number} was not reached"));
+        }
+        let ends = [
+            self.plans[SHORT_BUFFER],
+            self.done,
+            self.short_slices,
+            self.impossible,
+        ];
+        report.check(ends.iter().all(|count| *count > 0), || {
+            format!("13, done, 14, 15 were reached {ends:?} times")
+        });
+    }
+
+    pub fn print(&self) {
+        let [none, simple, modified] = self.joins;
+        println!(
+            "  accepted: {}, of them {} with periods; join none {none}, simple {simple}, modified {modified}",
+            self.accepted, self.speaking
+        );
+        let names = [
+            ["fixed", "float"],
+            ["fold off", "on"],
+            ["mu-law", "G.721"],
+            ["without sizes", "with"],
+        ];
+        let half = |i: usize| {
+            let ([a, b], [first, second]) = (names[i], self.halves[i]);
+            format!("{a} {first}, {b} {second}")
+        };
+        println!("    {}", [0, 1, 2, 3].map(half).join("; "));
+        println!("  refused: {}", numbered(&self.refused));
+        println!("  needs by answer: {}", numbered(&self.needs));
+        println!("  plans by answer: {}", numbered(&self.plans));
+        println!(
+            "  marks: {}, periods: {}, samples: {}",
+            self.marks, self.periods, self.samples
+        );
+        println!(
+            "  pulls: {}, of them done {}, -14 {}, -15 {}",
+            self.pulls, self.done, self.short_slices, self.impossible
+        );
+        println!(
+            "  not compared, as the Rust would take long: {}",
+            self.not_compared
+        );
+    }
+}
+
+fn numbered(counts: &ByNumber) -> String {
+    let met = counts.iter().enumerate().filter(|(_, count)| **count > 0);
+    let shown: Vec<String> = met
+        .map(|(number, count)| format!("{number}: {count}"))
+        .collect();
+    shown.join(", ")
+}

@@ -1,0 +1,83 @@
+//! `oracle calls`: whole calls through `diphone_need`, `diphone_plan` and
+//! `diphone_pull`, beside the Rust where they are spoken and beside document
+//! 01 where they are refused.
+
+mod archive;
+mod cases;
+mod counts;
+mod guarded;
+mod machine;
+mod odd_states;
+mod planning;
+mod pulling;
+
+use crate::args::Args;
+use crate::call::Settings;
+use crate::expected::{self, Given, Most};
+use crate::report::Report;
+use crate::rng::Rng;
+use crate::voicefile;
+use cases::Generator;
+use counts::Counts;
+
+/// Generated calls in a run that is not told otherwise.
+const CALLS: u64 = 2_000;
+
+/// The call's files and settings, and what it is.
+pub struct Call {
+    pub about: String,
+    pub voice: Vec<u8>,
+    pub sheet: Vec<u8>,
+    pub settings: Settings,
+}
+
+/// What is found on the way.
+#[derive(Default)]
+pub struct Bench {
+    pub report: Report,
+    pub counts: Counts,
+}
+
+pub fn run(args: &Args) -> bool {
+    let mut bench = Bench::default();
+    let generator = Generator::new();
+    let calls = args.count.unwrap_or(CALLS);
+    for case in args.from..args.from + calls {
+        let rng = &mut Rng::for_case(args.seed, 8_000_000 + case);
+        let call = generator.call(rng, case);
+        check(rng, &call, &mut bench);
+    }
+    let mut each = |rng: &mut Rng, call: Call| check(rng, &call, &mut bench);
+    cases::unfit_voices(args.seed, &mut each);
+    cases::unfit_sheets(args.seed, &mut each);
+    cases::at_limits(args.seed, &mut each);
+    bench.counts.check_reached(&mut bench.report);
+    println!("oracle calls: seed {}, {calls} generated calls", args.seed);
+    bench.counts.print();
+    println!(
+        "oracle calls: {} checks, {} mismatches",
+        bench.report.checks, bench.report.failures
+    );
+    bench.report.failures == 0
+}
+
+/// One call with buffers of every sort. Its files stay as they are.
+fn check(rng: &mut Rng, call: &Call, bench: &mut Bench) {
+    let kept = [call.voice.clone(), call.sheet.clone()];
+    let any = Most {
+        marks: usize::MAX,
+        samples: usize::MAX,
+    };
+    match expected::given(&call.voice, &call.sheet, call.settings, any) {
+        None => bench.counts.not_compared += 1,
+        Some(Given::Refused(refusal)) => planning::refused(rng, call, refusal, bench),
+        Some(Given::Spoken(spoken)) => {
+            let voice = voicefile::open(&call.voice).expect("a voice that was opened before");
+            planning::spoken(rng, call, &voice, &spoken, bench);
+        }
+    }
+    let same = kept[0] == call.voice && kept[1] == call.sheet;
+    bench
+        .report
+        .check(same, || format!("{}: a file was written", call.about));
+}

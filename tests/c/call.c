@@ -1,0 +1,448 @@
+/* Makes document 01's example call through the C interface: what it needs, its plan, its pulls; then
+ * calls and pulls that are refused. Ends with 0 if all is as it should be. */
+#define TEST "call"
+#include "example.h"
+
+#include <stdlib.h>
+
+enum { INDEX, MARKS, SIZES, ROWS, EXCITATION, DECODED, STATE, SUMMARY, BUFFERS };
+enum { NONE, SIMPLE, MODIFIED };
+
+/* ---- sheets: the segments pau and aa */
+
+static uint8_t sheet[64];
+static size_t sheet_length;
+
+static void sheet_bytes(const void *data, size_t count)
+{
+    memcpy(sheet + sheet_length, data, count);
+    sheet_length += count;
+}
+
+/* A value of kind 2 has no word. */
+static void value(uint8_t kind, uint32_t word)
+{
+    uint8_t form[5] = {kind, (uint8_t)word, (uint8_t)(word >> 8), (uint8_t)(word >> 16),
+                       (uint8_t)(word >> 24)};
+    sheet_bytes(form, kind == 2 ? 1 : 5);
+}
+
+static void segments(uint8_t kind, uint32_t first_end)
+{
+    sheet_length = 0;
+    sheet_bytes("\x02\x03pau", 5);
+    value(kind, first_end);
+    sheet_bytes("\x00\x02"
+                "aa\x02\x00",
+                6);
+}
+
+/* Document 01's sheet, which has no end and no target. */
+static void example_sheet(void)
+{
+    segments(2, 0);
+    sheet_bytes("\x00", 1);
+}
+
+/* The first of two targets is at 0, both have floats by their bits. */
+static void two_targets(uint32_t first_f0, uint32_t pos, uint32_t f0)
+{
+    segments(2, 0);
+    sheet_bytes("\x02", 1);
+    value(2, 0);
+    value(1, first_f0);
+    value(1, pos);
+    value(1, f0);
+}
+
+/* ---- lent buffers */
+
+static uint8_t lent[BUFFERS][256];
+static size_t lengths[BUFFERS];
+static uint8_t need[80];
+
+static void reset(void)
+{
+    memset(lent, GUARD, sizeof lent);
+    memset(need, GUARD, sizeof need);
+}
+
+static uint8_t *at(int buffer)
+{
+    return lengths[buffer] > 0 ? lent[buffer] : NULL;
+}
+
+static uint32_t plan(uint32_t join, uint32_t filter, uint32_t fold)
+{
+    reset();
+    return diphone_plan(file, length, sheet, sheet_length, join, filter, fold, at(INDEX), lengths[INDEX],
+                        at(MARKS), lengths[MARKS], at(SIZES), lengths[SIZES], at(ROWS), lengths[ROWS],
+                        at(EXCITATION), lengths[EXCITATION], at(DECODED), lengths[DECODED], at(STATE),
+                        lengths[STATE], at(SUMMARY), lengths[SUMMARY]);
+}
+
+static uint32_t needs(uint32_t join, size_t need_length)
+{
+    reset();
+    return diphone_need(file, length, sheet, sheet_length, join, 0, need, need_length);
+}
+
+/* The lengths that the call needs, in bytes. */
+static void exact(uint32_t join)
+{
+    static const size_t widths[6] = {8, 4, 4, 2, 1, 1};
+    expect(needs(join, DIPHONE_NEED_BYTES) == 0, "need is told");
+    expect(all_guard(need, DIPHONE_NEED_BYTES, sizeof need), "bytes past need");
+    for (int i = 0; i < 6; i += 1)
+        lengths[i] = (size_t)u64_at(need, 8 * i) * widths[i];
+    lengths[STATE] = DIPHONE_STATE_BYTES;
+    lengths[SUMMARY] = DIPHONE_SUMMARY_BYTES;
+}
+
+static uint32_t u32_at(int buffer, size_t i)
+{
+    return (uint32_t)u64_at(lent[buffer], i);
+}
+
+static void put_u32(int buffer, size_t i, uint32_t number)
+{
+    for (int k = 0; k < 4; k += 1)
+        lent[buffer][i + k] = (uint8_t)(number >> 8 * k);
+}
+
+/* Six numbers of 8 bytes. */
+static int six(const uint8_t *buffer, uint64_t a, uint64_t b, uint64_t c, uint64_t d, uint64_t e,
+               uint64_t f)
+{
+    uint64_t numbers[6] = {a, b, c, d, e, f};
+    for (size_t i = 0; i < 6; i += 1)
+        if (u64_at(buffer, 8 * i) != numbers[i])
+            return 0;
+    return 1;
+}
+
+static void past(int buffer, size_t bytes_filled)
+{
+    expect(all_guard(lent[buffer], bytes_filled, sizeof lent[buffer]), "bytes past what is filled");
+}
+
+/* ---- what the call fills */
+
+static void fills(size_t entries, uint32_t order)
+{
+    uint8_t rows[64];
+    for (size_t i = 0; i < 4 * order; i += 1)
+        rows[i] = (uint8_t)(i + 1);
+    expect(u64_at(lent[INDEX], 0) == entries, "the index");
+    expect(u32_at(MARKS, 0) == 2 && u32_at(MARKS, 4) == 5, "the marks");
+    expect(u32_at(SIZES, 0) == 2 && u32_at(SIZES, 4) == 3, "the sizes");
+    expect(memcmp(lent[ROWS], rows, 4 * order) == 0, "the rows as stored");
+    expect(memcmp(lent[EXCITATION], residual, 5) == 0, "the excitation");
+    expect(six(lent[SUMMARY], 8000, 2, 5, 2, order, 1), "the summary");
+    expect(u32_at(STATE, 4) == order && u32_at(STATE, 8) == order, "order and ring place");
+    for (size_t i = 12; i < DIPHONE_STATE_BYTES; i += 1)
+        expect(lent[STATE][i] == 0, "scales, places and history of the fresh state");
+    past(INDEX, 8);
+    past(MARKS, 8);
+    past(SIZES, 8);
+    past(ROWS, 4 * order);
+    past(EXCITATION, 5);
+    past(DECODED, 0);
+    past(STATE, DIPHONE_STATE_BYTES);
+    past(SUMMARY, DIPHONE_SUMMARY_BYTES);
+}
+
+/* ---- pulls */
+
+static uint8_t samples[32];
+
+static int64_t pull_with(size_t state_length, size_t rows_length, size_t slice_length)
+{
+    memset(samples, GUARD, sizeof samples);
+    return diphone_pull(lent[STATE], state_length, lent[SIZES], 8, rows_length > 0 ? lent[ROWS] : NULL,
+                        rows_length, lent[EXCITATION], 5, slice_length > 0 ? samples : NULL, slice_length);
+}
+
+static int64_t pull(size_t slice_length)
+{
+    return pull_with(DIPHONE_STATE_BYTES, lengths[ROWS], slice_length);
+}
+
+/* A pull with this answer that leaves all. */
+static void refused_pull(int64_t answer, int64_t number, const uint8_t *state, const char *what)
+{
+    expect(answer == number, what);
+    expect(memcmp(lent[STATE], state, DIPHONE_STATE_BYTES) == 0, what);
+    expect(all_guard(samples, 0, sizeof samples), what);
+}
+
+/* The state after the fixed filter's five samples, of which the last is -132. */
+static void last_state(uint32_t order)
+{
+    uint32_t place = (order + 5) % (order + 1);
+    uint32_t last = (place + order) % (order + 1);
+    expect(u32_at(STATE, 4) == order && u32_at(STATE, 8) == place, "the ring place after five samples");
+    expect(u64_at(lent[STATE], 20) == 2 && u64_at(lent[STATE], 28) == 5, "the places after all");
+    expect(u32_at(STATE, 36 + 4 * last) == (uint32_t)-132, "the history keeps the last sample");
+    for (size_t i = 36 + 4 * (order + 1); i < DIPHONE_STATE_BYTES; i += 1)
+        expect(lent[STATE][i] == 0, "the history past the order");
+}
+
+/* Pulls until done, each period first into a slice one byte short: document 01's lines. */
+static void speak(void)
+{
+    static const char *lines = "8000 2 5\n1 2 8 132\n2 3 0 -8 -132\n";
+    char text[200];
+    uint8_t state[DIPHONE_STATE_BYTES];
+    int end = sprintf(text, "%d %d %d\n", (int)u64_at(lent[SUMMARY], 0), (int)u64_at(lent[SUMMARY], 8),
+                      (int)u64_at(lent[SUMMARY], 16));
+    for (uint32_t period = 0; period < 2; period += 1) {
+        size_t size = u32_at(SIZES, 4 * period);
+        memcpy(state, lent[STATE], sizeof state);
+        refused_pull(pull(2 * size - 1), -14, state, "a slice one byte short");
+        refused_pull(pull(0), -14, state, "no slice");
+        expect(pull(2 * size + 1 + period) == (int64_t)size, "a period is given");
+        expect(all_guard(samples, 2 * size, sizeof samples), "bytes past the period");
+        end += sprintf(text + end, "%d %d", (int)period + 1, (int)size);
+        for (size_t i = 0; i < size; i += 1)
+            end += sprintf(text + end, " %d", (int16_t)(samples[2 * i] | samples[2 * i + 1] << 8));
+        end += sprintf(text + end, "\n");
+    }
+    last_state((uint32_t)u64_at(lent[SUMMARY], 32));
+    memcpy(state, lent[STATE], sizeof state);
+    refused_pull(pull(0), -1, state, "done");
+    refused_pull(pull(sizeof samples), -1, state, "done again");
+    refused_pull(pull_with(DIPHONE_STATE_BYTES, 0, 2), -1, state, "done without rows");
+    past(STATE, DIPHONE_STATE_BYTES);
+    expect(strcmp(text, lines) == 0, "document 01's lines");
+    if (u64_at(lent[SUMMARY], 32) == 0)
+        printf("%s", text);
+}
+
+/* The state with one word changed is impossible. */
+static void impossible(size_t place, uint32_t word, const char *what)
+{
+    uint8_t state[DIPHONE_STATE_BYTES];
+    uint32_t before = u32_at(STATE, place);
+    put_u32(STATE, place, word);
+    memcpy(state, lent[STATE], sizeof state);
+    refused_pull(pull(sizeof samples), -15, state, what);
+    put_u32(STATE, place, before);
+}
+
+static void impossible_states(uint32_t order)
+{
+    uint8_t state[DIPHONE_STATE_BYTES];
+    impossible(0, 2, "filter 2");
+    impossible(4, 33, "order 33");
+    impossible(8, order + 1, "a ring place above the order");
+    impossible(12, 0x41800001, "coeff_min above 16");
+    impossible(12, 0x7FC00000, "coeff_min a NaN");
+    impossible(16, 0xC1800001, "coeff_range below -16");
+    impossible(16, 0x7F800000, "coeff_range infinite");
+    impossible(20, 3, "a period past the sizes");
+    impossible(24, 1, "a period far past the sizes");
+    impossible(28, 6, "a sample place past the excitation");
+    impossible(32, 0xFFFFFFFF, "a sample place far past the excitation");
+    memcpy(state, lent[STATE], sizeof state);
+    refused_pull(pull_with(167, lengths[ROWS], sizeof samples), -15, state, "a state of 167 bytes");
+    refused_pull(diphone_pull(NULL, 0, NULL, 0, NULL, 0, NULL, 0, NULL, 0), -15, state, "no state");
+    if (order > 0)
+        refused_pull(pull_with(DIPHONE_STATE_BYTES, 2 * order - 1, sizeof samples), -15, state,
+                     "rows cut within the next row");
+}
+
+/* ---- refused calls */
+
+/* Need and plan refuse with this number whatever the buffers are, and leave all. */
+static void refused(uint32_t number, uint32_t join, const char *what)
+{
+    for (size_t size = 0; size <= 256; size += 128) {
+        for (int i = 0; i < BUFFERS; i += 1)
+            lengths[i] = size;
+        expect(plan(join, 0, 0) == number, what);
+        for (int i = 0; i < BUFFERS; i += 1)
+            past(i, 0);
+    }
+    expect(needs(join, 0) == number && needs(join, sizeof need) == number, what);
+    expect(all_guard(need, 0, sizeof need), what);
+}
+
+/* Each buffer one byte short. */
+static void short_buffers(void)
+{
+    exact(SIMPLE);
+    for (int i = 0; i < BUFFERS; i += 1) {
+        if (lengths[i] == 0)
+            continue;
+        lengths[i] -= 1;
+        expect(plan(SIMPLE, 0, 0) == DIPHONE_SHORT_BUFFER, "a buffer one byte short");
+        for (int k = 0; k < BUFFERS; k += 1)
+            past(k, 0);
+        lengths[i] += 1;
+    }
+    expect(needs(SIMPLE, DIPHONE_NEED_BYTES - 1) == DIPHONE_SHORT_BUFFER, "need one byte short");
+    expect(all_guard(need, 0, sizeof need), "need one byte short is left");
+}
+
+static void unfit_voices(void)
+{
+    size_t entries, end;
+    example_sheet();
+    example(2, 0, 1);
+    refused(DIPHONE_BAD_HEADER, SIMPLE, "another codec");
+    entries = example(0, 0, 1);
+    file[entries - 18 - 17 - 12 + 4] = 6;
+    refused(DIPHONE_BAD_TABLES, SIMPLE, "a falling offset");
+    entries = example(0, 0, 1);
+    file[entries + 9] = 2;
+    refused(DIPHONE_BAD_INDEX, SIMPLE, "an entry past the frames");
+    example(0, 0, 1);
+    file[8 + 1 + 13 + 4 + 1] = 'D';
+    refused(DIPHONE_NOT_DIPHONE, SIMPLE, "another back end");
+    example(0, 0, 1);
+    end = length;
+    length = ends[4];
+    refused(DIPHONE_MISSING_SECTION, SIMPLE, "no index");
+    length = end - 1;
+    refused(DIPHONE_SECTION_CUT, SIMPLE, "the last section cut");
+    length = 0;
+    refused(DIPHONE_BAD_MAGIC, SIMPLE, "no voice");
+}
+
+static void unfit_sheets(void)
+{
+    size_t end;
+    example(0, 0, 1);
+    example_sheet();
+    end = sheet_length;
+    for (sheet_length = 0; sheet_length < end; sheet_length += 1)
+        refused(8, NONE, "a front of the sheet");
+    sheet_bytes("\x00\x00", 2);
+    refused(8, NONE, "a byte left over");
+    segments(1, 0x7FC00000);
+    refused(9, NONE, "an end that is not finite");
+}
+
+static void unfit_calls(void)
+{
+    example(0, 0, 1);
+    two_targets(0, 0x3A83126F, 0x7F7FFFFF);
+    refused(10, MODIFIED, "a slope not finite");
+    expect(needs(SIMPLE, sizeof need) == 0, "no slope in a simple join");
+    segments(0, 0x7FFFFFFF);
+    sheet_bytes("\x00", 1);
+    refused(11, MODIFIED, "a target end too far");
+    expect(needs(SIMPLE, sizeof need) == 0, "no target end in a simple join");
+    two_targets(0x47800000, 0x3F800001, 0x47800000);
+    refused(12, MODIFIED, "65,537 marks");
+    two_targets(0x47800000, 0x3F800000, 0x47800000);
+    expect(needs(MODIFIED, sizeof need) == 0 && u64_at(need, 8) == 65536, "65,536 marks");
+    for (int i = 0; i < BUFFERS; i += 1)
+        lengths[i] = 256;
+    expect(plan(MODIFIED, 0, 0) == DIPHONE_SHORT_BUFFER, "65,536 marks in 256 bytes");
+}
+
+/* ---- other calls */
+
+static void no_join(void)
+{
+    exact(NONE);
+    expect(six(need, 1, 0, 0, 0, 0, 0), "join none needs the index alone");
+    expect(plan(NONE, 1, 1) == 0, "join none");
+    expect(six(lent[SUMMARY], 8000, 0, 0, 0, 0, 1), "join none: the summary");
+    expect(u32_at(STATE, 0) == 1, "the float filter");
+    expect(diphone_pull(lent[STATE], DIPHONE_STATE_BYTES, NULL, 0, NULL, 0, NULL, 0, NULL, 0) == -1,
+           "join none: done at once");
+    example_sheet();
+}
+
+/* Document 01's marks: rate 8000, targets (0, 64), (0.0625, 64). */
+static void four_marks(void)
+{
+    two_targets(0x42800000, 0x3D800000, 0x42800000);
+    exact(UINT32_MAX);
+    expect(plan(UINT32_MAX, 0, 0) == 0, "2 and above are the modified join");
+    exact(MODIFIED);
+    expect(plan(MODIFIED, 0, 0) == 0, "four marks");
+    for (uint32_t i = 0; i < 4; i += 1)
+        expect(u32_at(MARKS, 4 * i) == 125 * (i + 1), "marks 125, 250, 375, 500");
+    expect(six(lent[SUMMARY], 8000, 0, 0, 4, 0, 1), "four marks past the target ends");
+    past(MARKS, 16);
+}
+
+/* Buffers of just their lengths: valgrind sees each byte read or written past them. */
+static void from_the_heap(void)
+{
+    size_t sizes[BUFFERS + 2];
+    uint8_t *heap[BUFFERS + 2];
+    int64_t given;
+
+    example(1, 2, 1);
+    example_sheet();
+    exact(SIMPLE);
+    memcpy(sizes, lengths, sizeof lengths);
+    sizes[BUFFERS] = length;
+    sizes[BUFFERS + 1] = sheet_length;
+    for (int i = 0; i < BUFFERS + 2; i += 1)
+        heap[i] = malloc(sizes[i]);
+    memcpy(heap[BUFFERS], file, length);
+    memcpy(heap[BUFFERS + 1], sheet, sheet_length);
+    expect(diphone_plan(heap[BUFFERS], sizes[BUFFERS], heap[BUFFERS + 1], sizes[BUFFERS + 1], SIMPLE, 1, 1,
+                        heap[INDEX], sizes[INDEX], heap[MARKS], sizes[MARKS], heap[SIZES], sizes[SIZES],
+                        heap[ROWS], sizes[ROWS], heap[EXCITATION], sizes[EXCITATION], heap[DECODED],
+                        sizes[DECODED], heap[STATE], sizes[STATE], heap[SUMMARY], sizes[SUMMARY]) == 0,
+           "a plan in buffers of just their lengths");
+    for (int64_t period = 0; period < 2; period += 1) {
+        uint8_t *slice = malloc(2 * (2 + period));
+        given = diphone_pull(heap[STATE], sizes[STATE], heap[SIZES], sizes[SIZES], heap[ROWS], sizes[ROWS],
+                             heap[EXCITATION], sizes[EXCITATION], slice, 2 * (2 + period));
+        expect(given == 2 + period, "a period in a slice of just its length");
+        free(slice);
+    }
+    for (int i = 0; i < BUFFERS + 2; i += 1)
+        free(heap[i]);
+}
+
+static void g721(void)
+{
+    example_sheet();
+    example(1, 0, 1);
+    exact(SIMPLE);
+    expect(six(need, 1, 2, 2, 0, 5, 6), "G.721 needs a decode buffer");
+    expect(plan(SIMPLE, 0, 0) == 0, "a G.721 voice");
+    expect(!all_guard(lent[DECODED], 0, 6), "the decode buffer is used");
+    past(DECODED, 6);
+}
+
+int main(void)
+{
+    for (uint32_t order = 0; order <= 2; order += 2) {
+        size_t entries = example(0, order, 1);
+        example_sheet();
+        exact(SIMPLE);
+        expect(six(need, 1, 2, 2, 2 * order, 5, 0), "what the example needs");
+        expect(plan(SIMPLE, 0, 0) == 0, "the example is planned");
+        expect(u32_at(STATE, 0) == 0, "the fixed filter");
+        fills(entries, order);
+        impossible_states(order);
+        speak();
+        for (int i = 0; i < BUFFERS; i += 1)
+            lengths[i] += 3;
+        expect(plan(SIMPLE, 2, 7) == 0, "longer buffers, other settings");
+        expect(u32_at(STATE, 0) == 1, "2 and above are the float filter too");
+        fills(entries, order);
+        short_buffers();
+    }
+    example(0, 0, 1);
+    no_join();
+    four_marks();
+    g721();
+    from_the_heap();
+    unfit_voices();
+    unfit_sheets();
+    unfit_calls();
+    if (failures == 0)
+        printf("call: passed\n");
+    return failures != 0;
+}
