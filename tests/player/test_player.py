@@ -12,7 +12,7 @@ from pathlib import Path
 
 sys.path.insert(0, str(Path(__file__).resolve().parent.parent / "tools"))
 import cases  # pylint: disable=wrong-import-position
-from cases import ABSENT, EXAMPLES, real, segment, sheet, whole  # pylint: disable=wrong-import-position
+from cases import ABSENT, EXAMPLES, REPO, real, segment, sheet, whole  # pylint: disable=wrong-import-position
 
 PLAYER = os.environ["PLAYER"]
 VALGRIND = ["valgrind", "--quiet", "--leak-check=full", "--error-exitcode=99"] if shutil.which("valgrind") else None
@@ -81,6 +81,12 @@ class Output(InFolder):
             status, raw, _ = run(*YARD, "--raw", "--join", join, "--filter", how)
             found = len(raw) // 2, hashlib.sha256(raw).hexdigest()[:16]
             self.assertEqual((status, found), (0, expected), (join, how))
+
+    def test_picture(self):
+        """The picture in docs/ shows what is spoken."""
+        command = [REPO / "tools/draw", YARD[1]]
+        drawn = subprocess.run(command, input=run(*YARD)[1], stdout=subprocess.PIPE, check=True).stdout
+        self.assertEqual(drawn, (REPO / "docs/sheet-to-sound.svg").read_bytes())
 
     def test_fold(self):
         voice = EXAMPLES / "example.flv"

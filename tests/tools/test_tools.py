@@ -1,4 +1,5 @@
-"""Tests of tools/sheet, tools/voice-info and tools/make-example."""
+"""Tests of tools/sheet, tools/voice-info, tools/make-example and tools/draw."""
+import collections
 import contextlib
 import importlib.machinery
 import importlib.util
@@ -10,6 +11,7 @@ import subprocess
 import tempfile
 import unittest
 from pathlib import Path
+from xml.etree import ElementTree
 
 import cases
 from cases import ABSENT, EXAMPLES, REPO, bits, group, segment, sheet, whole
@@ -133,8 +135,10 @@ class Sheet(unittest.TestCase):
             self.assertEqual((status, data), expected, text)
 
     def test_shortest(self):
-        text = decode(sheet([], [bits(0x3DCCCCCD) + bits(0x42F00000), bits(1) + bits(0x80000000)]))[1]
-        self.assertIn(b"target float 0.1    float 120\ntarget float 1e-45  float -0\n", text)
+        words = {0x3DCCCCCD: "0.1", 0x42F00000: "120", 1: "1e-45", 0x80000000: "-0", 0x3EAAAAAB: "0.33333334"}
+        text = decode(sheet([], [bits(word) + ABSENT for word in words]))[1].decode()
+        lines = [f"target {'float ' + word:<12} -" for word in words.values()]
+        self.assertEqual(text.splitlines()[2:], lines)
 
     def test_streams(self):
         data = (EXAMPLES / "example.sht").read_bytes()
@@ -235,6 +239,19 @@ class VoiceInfo(unittest.TestCase):
         self.assertEqual(run_alone("voice-info")[0], 2)
         self.assertEqual(run("voice-info", "a", "b")[0], 2)
         self.assertEqual(run("voice-info", "/nowhere/at-all")[0], 1)
+
+
+class Draw(unittest.TestCase):
+    def test_parts(self):
+        lines = b"8000 7 14\n" + b"".join(b"%d 2 100 -100\n" % number for number in range(1, 8))
+        status, text, message = run_alone("draw", str(EXAMPLES / "yard.sht"), "--zoom", "0", given=lines)
+        self.assertEqual((status, message), (0, ""))
+        kinds = collections.Counter(part.get("class") for part in ElementTree.fromstring(text))
+        found = [kinds[kind] for kind in ("box", "half", "other", "dot", "mark", "wave", "body", "end")]
+        self.assertEqual(found, [9, 8, 8, 5, 7 + 5, 1, 1, 8])
+
+    def test_no_call(self):
+        self.assertEqual(run_alone("draw", str(EXAMPLES / "yard.sht"))[:2], (1, b""))
 
 
 class Examples(unittest.TestCase):
