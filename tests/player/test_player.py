@@ -11,8 +11,8 @@ import wave
 from pathlib import Path
 
 sys.path.insert(0, str(Path(__file__).resolve().parent.parent / "tools"))
-import cases  # pylint: disable=wrong-import-position
-from cases import ABSENT, EXAMPLES, REPO, real, segment, sheet, whole  # pylint: disable=wrong-import-position
+import cases
+from cases import ABSENT, EXAMPLES, REPO, real, segment, sheet, whole
 
 PLAYER = os.environ["PLAYER"]
 VALGRIND = ["valgrind", "--quiet", "--leak-check=full", "--error-exitcode=99"] if shutil.which("valgrind") else None
