@@ -1,0 +1,26 @@
+/* The player's command line. */
+#ifndef PLAYER_OPTIONS_H
+#define PLAYER_OPTIONS_H
+
+#include <stdint.h>
+#include <stdio.h>
+
+enum output { OUTPUT_LIST, OUTPUT_RAW, OUTPUT_WAV };
+
+struct options {
+    const char *voice;
+    const char *sheet;
+    uint32_t join;   /* 0 none, 1 simple, 2 modified */
+    uint32_t filter; /* 0 fixed, 1 float */
+    uint32_t fold;   /* 0 off, 1 on */
+    enum output output;
+    const char *wav; /* the file of OUTPUT_WAV */
+    int help;
+};
+
+/* Reads the command line. Answers 0, or says on standard error what is wrong and answers -1. */
+int read_options(struct options *options, int count, char **words);
+
+void print_usage(FILE *stream);
+
+#endif

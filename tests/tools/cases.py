@@ -1,0 +1,177 @@
+"""Voices and sheets, fit and unfit, each with the number by which it is refused."""
+import struct
+from pathlib import Path
+
+REPO = Path(__file__).resolve().parent.parent.parent
+EXAMPLES = REPO / "examples"
+MAGIC = b"FLRSDAT\x01"
+NAN, INFINITY = 0x7FC00000, 0x7F800000
+
+
+# ---- voices
+
+
+def section(name, data):
+    return bytes([len(name)]) + name + struct.pack("<I", len(data)) + data
+
+
+def sections_of(data):
+    """A voice's sections as (name, data)."""
+    at, found = len(MAGIC), []
+    while at < len(data):
+        end = at + 1 + data[at]
+        length = struct.unpack_from("<I", data, end)[0]
+        found.append((data[at + 1 : end], data[end + 4 : end + 4 + length]))
+        at = end + 4 + length
+    return found
+
+
+def voice_of(sections):
+    return MAGIC + b"".join(section(name, data) for name, data in sections)
+
+
+def changed(voice, name, change):
+    """The voice with one section's data changed."""
+    return voice_of([(n, change(d) if n == name else d) for n, d in sections_of(voice)])
+
+
+def patched(at, data):
+    return lambda old: old[:at] + data + old[at + len(data) :]
+
+
+def u32(number):
+    return struct.pack("<I", number)
+
+
+def f32(number):
+    return struct.pack("<f", number)
+
+
+def with_backend(voice, text):
+    return voice_of([(b"voice.backend", text)] + [s for s in sections_of(voice) if s[0] != b"voice.backend"])
+
+
+def fit_voices(voice):
+    """(what, bytes) of voices that open."""
+    yield "as it is", voice
+    yield "white space around the back end", with_backend(voice, "\u3000\x85diphone \n".encode())
+    yield "no back end", voice_of([s for s in sections_of(voice) if s[0] != b"voice.backend"])
+    yield "an unknown section", voice + section(b"other", b"123")
+    yield "a second header that would be unfit", voice + section(b"sts.header", b"")
+    yield "tails", voice_of([(name, data + b"\xff" * 3) for name, data in sections_of(voice) if name != b"voice.backend"])
+    yield "order 32 at most", changed(changed(voice, b"sts.header", patched(4, u32(32))), b"sts.lpc", lambda _: bytes(64 * 96))
+    yield "a NaN stretch", changed(voice, b"sts.header", patched(24, u32(NAN)))
+    yield "sizes", voice + section(b"sts.ressize", bytes([80] * 96))
+
+
+def unfit_voices(voice):
+    """(number, what, bytes) of voices that are refused. The voice has 96 frames."""
+    yield 1, "empty", b""
+    yield 1, "another magic", b"FLRSDAT\x02" + voice[8:]
+    yield 1, "magic cut short", voice[:7]
+    yield 2, "cut short", voice[:-1]
+    yield 2, "one byte more", voice + b"\x01"
+    yield 2, "a section's name not UTF-8", voice + section(b"\xc0\x80", b"")
+    yield 3, "another back end", with_backend(voice, b"clustergen")
+    yield 3, "back end not UTF-8", with_backend(voice, b"diphone\xff")
+    yield 3, "a control character is no white space", with_backend(voice, b"\x1fdiphone")
+    for needed in (b"sts.header", b"sts.lpc", b"sts.resoffs", b"sts.res", b"dip.index"):
+        yield 4, f"no {needed.decode()}", voice_of([s for s in sections_of(voice) if s[0] != needed])
+    yield 5, "header cut short", changed(voice, b"sts.header", lambda data: data[:39])
+    fields = {
+        "frames 0": (0, u32(0)),
+        "order 33": (4, u32(33)),
+        "rate 0": (8, u32(0)),
+        "rate 48,001": (8, u32(48_001)),
+        "coeff_min NaN": (12, u32(NAN)),
+        "coeff_min 17": (12, f32(17)),
+        "coeff_range infinite": (16, u32(INFINITY)),
+        "coeff_range -17": (16, f32(-17)),
+        "codec 2": (20, u32(2)),
+    }
+    for what, (at, data) in fields.items():
+        yield 5, what, changed(voice, b"sts.header", patched(at, data))
+    yield 6, "frames beyond the tables", changed(voice, b"sts.header", patched(0, u32(0xFFFFFFFF)))
+    yield 6, "rows cut short", changed(voice, b"sts.lpc", lambda data: data[:-1])
+    yield 6, "offsets cut short", changed(voice, b"sts.resoffs", lambda data: data[:-1])
+    yield 6, "an offset falls", changed(voice, b"sts.resoffs", patched(8, u32(0)))
+    yield 6, "the last offset past the residual", changed(voice, b"sts.res", lambda data: data[:-1])
+    yield 6, "sizes cut short", voice + section(b"sts.ressize", bytes(95))
+    yield 6, "a residual too long", changed(voice, b"sts.res", lambda data: data + bytes(16_777_216 - len(data)))
+    entry = b"\x03q-q" + struct.pack("<HBB", 0, 1, 1)
+    indices = {
+        "no index count": b"\0\0\0",
+        "empty index": u32(0),
+        "cut short": u32(2) + entry,
+        "a name twice": u32(2) + entry + entry,
+        "a name not UTF-8": u32(1) + b"\x03\xed\xa0\x80" + bytes(4),
+        "an entry past the frames": u32(1) + b"\x03q-q" + struct.pack("<HBB", 95, 1, 1),
+    }
+    for what, data in indices.items():
+        yield 7, what, changed(voice, b"dip.index", lambda _, data=data: data)
+    both = changed(voice, b"dip.index", lambda _: u32(0))
+    yield 5, "header before index", changed(both, b"sts.header", patched(8, u32(0)))
+
+
+# ---- sheets
+
+
+def group(number):
+    out = b""
+    while number >= 128:
+        out += bytes([number % 128 + 128])
+        number //= 128
+    return out + bytes([number])
+
+
+ABSENT = b"\x02"
+
+
+def whole(number):
+    return b"\x00" + struct.pack("<i", number)
+
+
+def bits(word):
+    return b"\x01" + struct.pack("<I", word)
+
+
+def real(number):
+    return b"\x01" + f32(number)
+
+
+def segment(name, end=ABSENT, follower=0):
+    return group(len(name)) + name + end + group(follower)
+
+
+def sheet(segments, targets=()):
+    return group(len(segments)) + b"".join(segments) + group(len(targets)) + b"".join(targets)
+
+
+def unfit_sheets():
+    """(number, what, bytes) of sheets that cannot be read."""
+    pair = [segment(b"pau"), segment(b"n")]
+    yield 8, "empty", b""
+    yield 8, "cut short", sheet(pair)[:-1]
+    yield 8, "bytes left over", sheet(pair) + b"\0"
+    yield 8, "a count not in its shortest form", b"\x80\x00\x00"
+    yield 8, "a count of six groups", b"\x80\x80\x80\x80\x80\x01"
+    yield 8, "4,097 segments", sheet([segment(b"n")] * 4097)
+    yield 8, "4,097 targets", sheet(pair, [ABSENT * 2] * 4097)
+    yield 8, "a name of 33 bytes", sheet([segment(b"n" * 33)])
+    yield 8, "a blank in a name", sheet([segment(b"n n")])
+    yield 8, "byte 127 in a name", sheet([segment(b"n\x7f")])
+    yield 8, "a value of kind 3", sheet([segment(b"n", b"\x03")])
+    yield 8, "a follower above the count", sheet([segment(b"n", ABSENT, 2)])
+    yield 9, "a NaN", sheet([segment(b"n", bits(NAN))])
+    yield 9, "infinity", sheet(pair, [bits(INFINITY) + ABSENT])
+    yield 9, "a NaN before a follower above the count", sheet([segment(b"n", bits(NAN), 2)])
+    yield 8, "a bad name before a NaN", sheet([segment(b"n n", bits(NAN))])
+
+
+def unfit_calls():
+    """(number, what, bytes) of sheets that can be read, but not spoken with the modified join at 8,000 a second."""
+    pair = [segment(b"pau", real(0.5)), segment(b"n", real(1))]
+    yield 10, "a pitch that leaps", sheet(pair, [real(1e-40) + real(1000)])
+    yield 11, "a phone too late", sheet([segment(b"pau"), segment(b"n", whole(5000))])
+    yield 11, "a period too late", sheet(pair, [ABSENT + real(1e-4), real(1) + real(1e-4)])
+    yield 12, "too many periods", sheet(pair, [ABSENT + real(60_000), real(2) + real(60_000)])

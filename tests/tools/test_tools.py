@@ -1,0 +1,275 @@
+"""Tests of tools/sheet, tools/voice-info, tools/make-example and tools/draw."""
+import collections
+import contextlib
+import importlib.machinery
+import importlib.util
+import io
+import random
+import re
+import struct
+import subprocess
+import tempfile
+import unittest
+from pathlib import Path
+from xml.etree import ElementTree
+
+import cases
+from cases import ABSENT, EXAMPLES, REPO, bits, group, segment, sheet, whole
+
+DOCUMENT_TEXT = """\
+# segment NAME END FOLLOWER
+segment pau  -            -
+segment aa   -            -
+# target POS F0
+"""
+
+
+def loaded(name):
+    """A tool as a module."""
+    loader = importlib.machinery.SourceFileLoader(name.replace("-", "_"), str(REPO / "tools" / name))
+    module = importlib.util.module_from_spec(importlib.util.spec_from_loader(loader.name, loader))
+    loader.exec_module(module)
+    return module
+
+
+TOOLS = {name: loaded(name) for name in ("sheet", "voice-info")}
+
+
+def run(tool, *words):
+    """A tool's exit status, standard output and standard error, run in this process."""
+    out, err = io.StringIO(), io.StringIO()
+    with contextlib.redirect_stdout(out), contextlib.redirect_stderr(err):
+        status = TOOLS[tool].main(list(words))
+    return status, out.getvalue(), err.getvalue()
+
+
+def run_alone(tool, *words, given=b""):
+    """The same, run as a program."""
+    command = [REPO / "tools" / tool, *words]
+    done = subprocess.run(command, input=given, stdout=subprocess.PIPE, stderr=subprocess.PIPE, check=False)
+    return done.returncode, done.stdout, done.stderr.decode()
+
+
+def turned(command, data):
+    """What tools/sheet makes of bytes: exit status, bytes, standard error."""
+    with tempfile.TemporaryDirectory() as folder:
+        source, target = Path(folder) / "in", Path(folder) / "out"
+        source.write_bytes(data)
+        status, _, message = run("sheet", command, str(source), str(target))
+        return status, target.read_bytes() if target.exists() else b"", message
+
+
+def encode(text):
+    return turned("encode", text if isinstance(text, bytes) else text.encode())
+
+
+def decode(data):
+    return turned("decode", data)
+
+
+def finite(word):
+    return word & 0x7F800000 != 0x7F800000
+
+
+EDGES = [0, 1, 0x7FFFFF, 0x800000, 0x7F7FFFFF, 0x3F7FFFFF, 0x3F800000, 0x3F800001, 0x3DCCCCCD, 0x4B800000, 0x4B800001]
+FLOATS = EDGES + [word | 0x80000000 for word in EDGES]
+
+
+def random_value(draw):
+    kind = draw.randrange(4)
+    if kind == 0:
+        return whole(draw.choice([0, -1, 2**31 - 1, -(2**31), draw.randrange(-1000, 1000)]))
+    if kind == 1:
+        return ABSENT
+    word = draw.choice(FLOATS) if kind == 2 else draw.getrandbits(32)
+    return bits(word if finite(word) else word & 0x807FFFFF)
+
+
+def random_sheet(draw, segments, targets):
+    letters = bytes(range(33, 127))
+    names = [bytes(draw.choices(letters, k=draw.randrange(33))) for _ in range(segments)]
+    names[:5] = [b"", b"\\", b"\\0", b"#", b"-"][: len(names)]
+    parts = [segment(name, random_value(draw), draw.randrange(segments + 1)) for name in names]
+    return sheet(parts, [random_value(draw) + random_value(draw) for _ in range(targets)])
+
+
+class Sheet(unittest.TestCase):
+    def test_document(self):
+        data = (EXAMPLES / "example.sht").read_bytes()
+        self.assertEqual(decode(data), (0, DOCUMENT_TEXT.encode(), ""))
+        self.assertEqual(encode(DOCUMENT_TEXT), (0, data, ""))
+
+    def test_round_trip(self):
+        draw = random.Random(1)
+        for segments, targets in [(0, 0), (0, 3), (5, 0), (127, 128), (200, 300), (4096, 4096)]:
+            data = random_sheet(draw, segments, targets)
+            status, text, _ = decode(data)
+            self.assertEqual(status, 0)
+            self.assertEqual(encode(text), (0, data, ""))
+
+    def test_floats(self):
+        words = {
+            "0.1": 0x3DCCCCCD,
+            "-0": 0x80000000,
+            ".5": 0x3F000000,
+            "25e-2": 0x3E800000,
+            "0x00000001": 1,
+            "16777217": 0x4B800000,  # ties go to the even one
+            "16777219": 0x4B800002,
+            "16777217.0000000000001": 0x4B800001,
+            "1.000000059604644775390625": 0x3F800000,  # a tie that a double can hold
+            "1.000000059604644775390626": 0x3F800001,  # above it, by less than a double can tell
+            "1.000000178813934326171874": 0x3F800001,
+            "1e-999": 0,
+            "340282356779733661637539395458142568448": None,  # halfway to what would follow the largest
+            "340282356779733661637539395458142568447": 0x7F7FFFFF,
+            "1e999": None,
+            "0x7f800000": None,
+            "nan": None,
+            "1_0": None,
+            "0x3e80000": None,
+        }
+        for text, word in words.items():
+            status, data, _ = encode(f"target float {text} -")
+            expected = (1, b"") if word is None else (0, sheet([], [bits(word) + ABSENT]))
+            self.assertEqual((status, data), expected, text)
+
+    def test_shortest(self):
+        words = {0x3DCCCCCD: "0.1", 0x42F00000: "120", 1: "1e-45", 0x80000000: "-0", 0x3EAAAAAB: "0.33333334"}
+        text = decode(sheet([], [bits(word) + ABSENT for word in words]))[1].decode()
+        lines = [f"target {'float ' + word:<12} -" for word in words.values()]
+        self.assertEqual(text.splitlines()[2:], lines)
+
+    def test_streams(self):
+        data = (EXAMPLES / "example.sht").read_bytes()
+        self.assertEqual(run_alone("sheet", "decode", "-", given=data), (0, DOCUMENT_TEXT.encode(), ""))
+        self.assertEqual(run_alone("sheet", "encode", "-", "-", given=DOCUMENT_TEXT.encode()), (0, data, ""))
+        self.assertEqual(run_alone("sheet", "encode", "-", "-", given=b"what\n")[:2], (1, b""))
+
+    def test_unfit_sheets(self):
+        for number, what, data in cases.unfit_sheets():
+            status, text, message = decode(data)
+            self.assertEqual((status, text), (1, b""), what)
+            self.assertIn(f"refused {number} ", message, what)
+
+    def test_most(self):
+        most = sheet([segment(b"n", ABSENT, 4096)] * 4096, [ABSENT * 2] * 4096)
+        self.assertEqual(decode(most)[0], 0)
+        self.assertEqual(group(4096), b"\x80\x20")
+
+    def test_unfit_texts(self):
+        good = "segment n - -\n"
+        lines = [
+            "segment n -",
+            "segment n - - -",
+            "segment n - -1",
+            "segment n - 3",
+            "segment n int 2147483648 -",
+            "segment n int 1.5 -",
+            "segment n real 1 -",
+            "segment a\\b - -",
+            "segment \u00e9 - -",
+            "segment " + "n" * 33 + " - -",
+            "target -",
+            "phone n - -",
+            "target - -\nsegment n - -",
+        ]
+        for line in lines:
+            status, data, message = encode(good + line)
+            self.assertEqual((status, data), (1, b""), line)
+            self.assertTrue(message.startswith("sheet: "), line)
+        self.assertIn("line 2: ", encode(good + lines[0])[2])
+        self.assertEqual(encode(good * 4096)[0], 0)
+        self.assertEqual(encode(good * 4097)[0], 1)
+        self.assertEqual(encode("# a comment\n\n  # and one more\r\n" + good)[:2], (0, sheet([segment(b"n")])))
+
+    def test_command_line(self):
+        for words in [(), ("encode", "a"), ("decode",), ("decode", "a", "b", "c"), ("other", "a", "b")]:
+            self.assertEqual(run("sheet", *words)[0], 2, words)
+        self.assertEqual(run("sheet", "decode", "/nowhere/at-all")[0], 1)
+
+
+class VoiceInfo(unittest.TestCase):
+    def info(self, data, *words):
+        with tempfile.TemporaryDirectory() as folder:
+            path = Path(folder) / "voice.flv"
+            path.write_bytes(data)
+            status, text, message = run("voice-info", str(path), *words)
+        self.assertEqual(message, "")
+        return status, text
+
+    def test_document(self):
+        status, text = self.info((EXAMPLES / "example.flv").read_bytes(), "--entries")
+        self.assertEqual(status, 0)
+        for line in [
+            "149 bytes; sections",
+            "  sts.resoffs           12 bytes at 91",
+            "  frames         2",
+            "  codec          0  (mu-law)",
+            "  samples        5 (0.001 seconds)",
+            "  longest        3 samples (period 1); 3 bytes stored",
+            "index: 1 entry, the first by name pau-aa",
+            "  pau-aa         periods from 0, 1 + 1",
+            "opens",
+        ]:
+            self.assertIn(line, text.split("\n"))
+
+    def test_fit(self):
+        for what, data in cases.fit_voices((EXAMPLES / "yard.flv").read_bytes()):
+            status, text = self.info(data)
+            self.assertEqual((status, text.split("\n")[-2]), (0, "opens"), what)
+
+    def test_unfit(self):
+        seen = set()
+        for number, what, data in cases.unfit_voices((EXAMPLES / "yard.flv").read_bytes()):
+            status, text = self.info(data)
+            self.assertEqual(status, 1, what)
+            self.assertEqual(re.match(r"refused (\d): .", text.split("\n")[-2])[1], str(number), what)
+            seen.add(number)
+        self.assertEqual(seen, set(range(1, 8)))
+
+    def test_sizes_and_codec(self):
+        voice = cases.changed((EXAMPLES / "yard.flv").read_bytes(), b"sts.header", cases.patched(20, cases.u32(1)))
+        text = self.info(voice + cases.section(b"sts.ressize", bytes([7] * 95 + [9])))[1]
+        self.assertIn("  codec          1  (G.721)\n", text)
+        self.assertIn("  longest        9 samples (period 95); 81 bytes stored\n", text)
+        self.assertIn("  decode buffer  162 bytes in a call\n", text)
+
+    def test_command_line(self):
+        self.assertEqual(run_alone("voice-info")[0], 2)
+        self.assertEqual(run("voice-info", "a", "b")[0], 2)
+        self.assertEqual(run("voice-info", "/nowhere/at-all")[0], 1)
+
+
+class Draw(unittest.TestCase):
+    def test_parts(self):
+        lines = b"8000 7 14\n" + b"".join(b"%d 2 100 -100\n" % number for number in range(1, 8))
+        status, text, message = run_alone("draw", str(EXAMPLES / "yard.sht"), "--zoom", "0", given=lines)
+        self.assertEqual((status, message), (0, ""))
+        kinds = collections.Counter(part.get("class") for part in ElementTree.fromstring(text))
+        found = [kinds[kind] for kind in ("box", "half", "other", "dot", "mark", "wave", "body", "end")]
+        self.assertEqual(found, [9, 8, 8, 5, 7 + 5, 1, 1, 8])
+
+    def test_no_call(self):
+        self.assertEqual(run_alone("draw", str(EXAMPLES / "yard.sht"))[:2], (1, b""))
+
+
+class Examples(unittest.TestCase):
+    def test_made_anew(self):
+        self.assertEqual(run_alone("make-example", "--check"), (0, b"examples that differ: none\n", ""))
+
+    def test_a_difference_is_seen(self):
+        status, text, _ = run_alone("make-example", "--check", "--seed", "2")
+        self.assertEqual((status, text), (1, b"examples that differ: yard.flv\n"))
+
+    def test_document_bytes(self):
+        voice = dict(cases.sections_of((EXAMPLES / "example.flv").read_bytes()))
+        self.assertEqual(voice[b"sts.header"], struct.pack("<IIIffIfffI", 2, 0, 8000, 0, 0, 0, 0, 0, 0, 0))
+        self.assertEqual(voice[b"sts.resoffs"], struct.pack("<III", 0, 2, 5))
+        self.assertEqual(voice[b"sts.res"], bytes([0xFE, 0xEF, 0xFF, 0x7E, 0x6F]))
+        self.assertEqual(voice[b"dip.index"], b"\1\0\0\0\6pau-aa\0\0\1\1")
+        self.assertEqual((EXAMPLES / "example.sht").read_bytes(), b"\2\3pau\2\0\2aa\2\0\0")
+
+
+if __name__ == "__main__":
+    unittest.main()
