@@ -1,2 +1,3 @@
 -- Laws for the functions that C calls.
 pub mod RecordLaws
+pub mod NumberLaws

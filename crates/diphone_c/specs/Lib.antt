@@ -1,2 +1,3 @@
 -- The root of diphone_c's definitions.
 pub mod Open
+pub mod Numbers

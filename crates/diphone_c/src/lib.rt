@@ -1,5 +1,7 @@
 // The functions that a program in C calls: numbers and byte slices alone. `report` is the C
 // header's `record`, which is a word of the logic.
+mod numbers;
+
 ghost use mathlib.Core.Path.{_≡_};
 ghost use Prim.Native.Nat.{_≤_};
 ghost use lib.ListN.{length};
