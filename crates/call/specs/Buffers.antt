@@ -40,6 +40,18 @@ pub record Buffers : Type 0 where
   pub excitation : List ℕ
   pub decoded : List ℕ
 
+-- the six lent buffers
+abbrev pub lent : List ℕ → List ℕ → List ℕ → List ℕ → List ℕ → List ℕ → Buffers
+lent index marks sizes rows excitation decoded =
+    record {
+      index = index;
+      marks = marks;
+      sizes = sizes;
+      rows = rows;
+      excitation = excitation;
+      decoded = decoded;
+    }
+
 -- ---- what a call fills
 
 -- 'A call also fills the sorted index, every mark made, and for the taken periods the sizes, the row .. and the excitation': the bytes, buffer by buffer

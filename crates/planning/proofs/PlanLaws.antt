@@ -21,10 +21,10 @@ use Rattle.call.specs.declared.Need.{Need}
 use Rattle.call.specs.declared.Summary.{Summary}
 use Rattle.call.specs.declared.Called.the-variants.{Spoken}
 use Rattle.call.specs.declared.Planned.{Planned}
-use Rattle.call.specs.Buffers.{Buffers, needOf, holds, lengthsOf, fits, filled, checkRefusal, callRefusal, summaryOf, freshOf, refusedBy, answerBy, plannedOf, overAll, buffersAfter}
+use Rattle.call.specs.Buffers.{Buffers, lent, needOf, holds, lengthsOf, fits, filled, checkRefusal, callRefusal, summaryOf, freshOf, refusedBy, answerBy, plannedOf, overAll, buffersAfter}
 use Rattle.checking.specs.declared.Fit.{Fit}
 use Rattle.checking.specs.Checks.{Fits}
-use Rattle.planning.specs.Planning.{summaryBy, lent, CanFill}
+use Rattle.planning.specs.Planning.{summaryBy, CanFill}
 
 module _ (file sheet : List ℕ) (o : Settings) (b : Buffers) (p : checkRefusal file sheet o ≡ none) where
   pub passed-by : callRefusal file sheet o b ≡ pick (fits (voiceOf file) (sheetOf sheet) o b) none (some ShortBuffer)

@@ -31,18 +31,6 @@ summaryBy rate order n =
       entries = n .entries;
     }
 
--- the six lent buffers
-abbrev pub lent : List ℕ → List ℕ → List ℕ → List ℕ → List ℕ → List ℕ → Buffers
-lent index marks sizes rows excitation decoded =
-    record {
-      index = index;
-      marks = marks;
-      sizes = sizes;
-      rows = rows;
-      excitation = excitation;
-      decoded = decoded;
-    }
-
 pub record CanFill (file sheet : List ℕ) (o : Settings) (d : DiphoneVoice) (p : Places) (n : Need) (l : Lengths) : Type 0 where
   pub planned : planOf (voiceOf file) (sheetOf sheet) o .refusal ≡ none
   pub opened : IsOpen file d

@@ -82,7 +82,7 @@ fn fill(
     excitation: &mut [u8],
     decoded: &mut [u8],
 )
-    requires { ⌜ planning.CanFill (now file) (now sheet) settings (fit .voice) (fit .places) (fit .need) (calls.lengthsOf (planning.lent (now index) (now marks) (now sizes) (now rows) (now excitation) (now decoded))) ⌝ }
+    requires { ⌜ planning.CanFill (now file) (now sheet) settings (fit .voice) (fit .places) (fit .need) (calls.lengthsOf (calls.lent (now index) (now marks) (now sizes) (now rows) (now excitation) (now decoded))) ⌝ }
     ensures { λ _. ⌜ now (index .exit) ≡ over (calls.filled (voiceOf (now (file .entry))) (sheetOf (now (sheet .entry))) settings .index) (now (index .entry)) ⌝ }
     ensures { λ _. ⌜ now (marks .exit) ≡ over (calls.filled (voiceOf (now (file .entry))) (sheetOf (now (sheet .entry))) settings .marks) (now (marks .entry)) ⌝ }
     ensures { λ _. ⌜ now (sizes .exit) ≡ over (calls.filled (voiceOf (now (file .entry))) (sheetOf (now (sheet .entry))) settings .sizes) (now (sizes .entry)) ⌝ }
@@ -104,9 +104,9 @@ fn plan_filled(
     excitation: &mut [u8],
     decoded: &mut [u8],
 ) -> Planned
-    requires { ⌜ Fits (now file) (now sheet) settings fit × (calls.fits (voiceOf (now file)) (sheetOf (now sheet)) settings (planning.lent (now index) (now marks) (now sizes) (now rows) (now excitation) (now decoded)) ≡ true) ⌝ }
-    ensures { λ r. ⌜ r ≡ calls.plannedOf (now (file .entry)) (now (sheet .entry)) settings (planning.lent (now (index .entry)) (now (marks .entry)) (now (sizes .entry)) (now (rows .entry)) (now (excitation .entry)) (now (decoded .entry))) ⌝ }
-    ensures { λ _. ⌜ planning.lent (now (index .exit)) (now (marks .exit)) (now (sizes .exit)) (now (rows .exit)) (now (excitation .exit)) (now (decoded .exit)) ≡ calls.buffersAfter (now (file .entry)) (now (sheet .entry)) settings (planning.lent (now (index .entry)) (now (marks .entry)) (now (sizes .entry)) (now (rows .entry)) (now (excitation .entry)) (now (decoded .entry))) ⌝ }
+    requires { ⌜ Fits (now file) (now sheet) settings fit × (calls.fits (voiceOf (now file)) (sheetOf (now sheet)) settings (calls.lent (now index) (now marks) (now sizes) (now rows) (now excitation) (now decoded)) ≡ true) ⌝ }
+    ensures { λ r. ⌜ r ≡ calls.plannedOf (now (file .entry)) (now (sheet .entry)) settings (calls.lent (now (index .entry)) (now (marks .entry)) (now (sizes .entry)) (now (rows .entry)) (now (excitation .entry)) (now (decoded .entry))) ⌝ }
+    ensures { λ _. ⌜ calls.lent (now (index .exit)) (now (marks .exit)) (now (sizes .exit)) (now (rows .exit)) (now (excitation .exit)) (now (decoded .exit)) ≡ calls.buffersAfter (now (file .entry)) (now (sheet .entry)) settings (calls.lent (now (index .entry)) (now (marks .entry)) (now (sizes .entry)) (now (rows .entry)) (now (excitation .entry)) (now (decoded .entry))) ⌝ }
 {
     fill(
         file,
@@ -148,8 +148,8 @@ pub fn plan_checked(
     decoded: &mut [u8],
 ) -> Planned
     requires { ⌜ Fits (now file) (now sheet) settings fit ⌝ }
-    ensures { λ r. ⌜ r ≡ calls.plannedOf (now (file .entry)) (now (sheet .entry)) settings (planning.lent (now (index .entry)) (now (marks .entry)) (now (sizes .entry)) (now (rows .entry)) (now (excitation .entry)) (now (decoded .entry))) ⌝ }
-    ensures { λ _. ⌜ planning.lent (now (index .exit)) (now (marks .exit)) (now (sizes .exit)) (now (rows .exit)) (now (excitation .exit)) (now (decoded .exit)) ≡ calls.buffersAfter (now (file .entry)) (now (sheet .entry)) settings (planning.lent (now (index .entry)) (now (marks .entry)) (now (sizes .entry)) (now (rows .entry)) (now (excitation .entry)) (now (decoded .entry))) ⌝ }
+    ensures { λ r. ⌜ r ≡ calls.plannedOf (now (file .entry)) (now (sheet .entry)) settings (calls.lent (now (index .entry)) (now (marks .entry)) (now (sizes .entry)) (now (rows .entry)) (now (excitation .entry)) (now (decoded .entry))) ⌝ }
+    ensures { λ _. ⌜ calls.lent (now (index .exit)) (now (marks .exit)) (now (sizes .exit)) (now (rows .exit)) (now (excitation .exit)) (now (decoded .exit)) ≡ calls.buffersAfter (now (file .entry)) (now (sheet .entry)) settings (calls.lent (now (index .entry)) (now (marks .entry)) (now (sizes .entry)) (now (rows .entry)) (now (excitation .entry)) (now (decoded .entry))) ⌝ }
 {
     let lengths = Lengths {
         index: index.len(),

@@ -1,6 +1,6 @@
 use borrow.Author.Tests.{not-true, not-false}
 use mathlib.Core.Path.{refl, sym, _∙_}
-use Rattle.planning.specs.Planning.{lent}
+use Rattle.call.specs.Buffers.{lent}
 use Rattle.planning.proofs.PlanLaws.{fits-is, short-ends}
 use borrow.Author.Needs.{needs}
 use Rattle.planning.proofs.plan_checked.Statement.{statement}

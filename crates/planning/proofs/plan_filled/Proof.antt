@@ -1,4 +1,4 @@
-use Rattle.planning.specs.Planning.{lent}
+use Rattle.call.specs.Buffers.{lent}
 use Rattle.planning.proofs.PlanLaws.{can-fill, spoken-ends, lent-same}
 use borrow.Author.Needs.{needs}
 use Rattle.planning.proofs.plan_filled.Statement.{statement}
