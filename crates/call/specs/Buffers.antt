@@ -25,6 +25,7 @@ use Rattle.lpc.specs.declared.FilterState.{FilterState}
 use Rattle.lpc.specs.State.{freshState}
 use Rattle.call.specs.declared.Settings.{Settings}
 use Rattle.call.specs.declared.Need.{Need}
+use Rattle.call.specs.declared.Lengths.{Lengths}
 use Rattle.call.specs.declared.Summary.{Summary}
 use Rattle.call.specs.declared.Called.{Called}
 use Rattle.call.specs.declared.Called.the-variants.{Spoken, Refused}
@@ -38,6 +39,18 @@ pub record Buffers : Type 0 where
   pub rows : List ℕ
   pub excitation : List ℕ
   pub decoded : List ℕ
+
+-- the six lent buffers
+abbrev pub lent : List ℕ → List ℕ → List ℕ → List ℕ → List ℕ → List ℕ → Buffers
+lent index marks sizes rows excitation decoded =
+    record {
+      index = index;
+      marks = marks;
+      sizes = sizes;
+      rows = rows;
+      excitation = excitation;
+      decoded = decoded;
+    }
 
 -- ---- what a call fills
 
@@ -69,20 +82,31 @@ needOf v s o =
       decoded = decodeRoom v;
     }
 
--- each buffer has as many whole elements
-abbrev pub holds : Need → Buffers → Bool
-holds n b =
+-- buffers of so many bytes have as many whole elements
+unfoldable pub holds : Need → Lengths → Bool
+holds n l =
     every
-    (leb (n .entries) (length (b .index) / 8)
-    ∷ leb (n .marks) (length (b .marks) / 4)
-    ∷ leb (n .periods) (length (b .sizes) / 4)
-    ∷ leb (n .rows) (length (b .rows) / 2)
-    ∷ leb (n .excitation) (length (b .excitation))
-    ∷ leb (n .decoded) (length (b .decoded))
+    (leb (n .entries) (l .index / 8)
+    ∷ leb (n .marks) (l .marks / 4)
+    ∷ leb (n .periods) (l .sizes / 4)
+    ∷ leb (n .rows) (l .rows / 2)
+    ∷ leb (n .excitation) (l .excitation)
+    ∷ leb (n .decoded) (l .decoded)
     ∷ [])
 
+abbrev pub lengthsOf : Buffers → Lengths
+lengthsOf b =
+    record {
+      index = length (b .index);
+      marks = length (b .marks);
+      sizes = length (b .sizes);
+      rows = length (b .rows);
+      excitation = length (b .excitation);
+      decoded = length (b .decoded);
+    }
+
 unfoldable pub fits : Voice → Sheet → Settings → Buffers → Bool
-fits v s o b = holds (needOf v s o) b
+fits v s o b = holds (needOf v s o) (lengthsOf b)
 
 -- ---- the call
 
@@ -113,9 +137,12 @@ freshOf v o = freshState (o .filter) (v .header .order) (v .header .«coeff_min�
 unfoldable pub zeroState : FilterState
 zeroState = freshState Fixed 0 (fin false 0 (pos 0)) (fin false 0 (pos 0))
 
+abbrev pub refusedBy : Refusal → Planned
+refusedBy r = record { answer = Refused r; state = zeroState }
+
 abbrev pub answerBy : Voice → Sheet → Settings → Option Refusal → Planned
 answerBy v s o none = record { answer = Spoken (summaryOf v s o); state = freshOf v o }
-answerBy v s o (some r) = record { answer = Refused r; state = zeroState }
+answerBy v s o (some r) = refusedBy r
 
 unfoldable pub plannedOf : List ℕ → List ℕ → Settings → Buffers → Planned
 plannedOf file sheet o b = answerBy (voiceOf file) (sheetOf sheet) o (callRefusal file sheet o b)

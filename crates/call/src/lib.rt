@@ -26,6 +26,16 @@ pub struct Need {
     pub decoded: usize,
 }
 
+// How many bytes each buffer lent for a call has.
+pub struct Lengths {
+    pub index: usize,
+    pub marks: usize,
+    pub sizes: usize,
+    pub rows: usize,
+    pub excitation: usize,
+    pub decoded: usize,
+}
+
 // What a call that is not refused gives: samples per second, then how many of each.
 pub struct Summary {
     pub rate: usize,

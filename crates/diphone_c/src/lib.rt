@@ -1,11 +1,19 @@
 // The functions that a program in C calls: numbers and byte slices alone. `report` is the C
 // header's `record`, which is a word of the logic.
+mod numbers;
+mod planned;
+mod stub;
+
 ghost use mathlib.Core.Path.{_≡_};
 ghost use Prim.Native.Nat.{_≤_};
 ghost use lib.ListN.{length};
 ghost use Rattle.base.specs.Buffers.{over};
 ghost use Rattle.voice.specs.Opening.{IsOpen};
+ghost use Rattle.call.specs.Buffers as calls;
 ghost use Rattle.diphone_c.specs.Open as opens;
+ghost use Rattle.diphone_c.specs.Numbers as numbers;
+ghost use Rattle.diphone_c.specs.Plan as plans;
+use checking::Checked;
 use refusal::Refusal;
 use voice::DiphoneVoice;
 use voice::Opened;
@@ -59,5 +67,73 @@ pub extern "C" fn diphone_open(voice: &[u8], index: &mut [u8], report: &mut [u8]
     match opening::check(voice) {
         Opened::Open(d) => open_buffers(voice, d, index, report),
         Opened::Refused(cause) => refusal::number(cause),
+    }
+}
+
+// How long each buffer of a call must be: 0, or the number of the refusal.
+#[no_mangle]
+pub extern "C" fn diphone_need(
+    voice: &[u8],
+    sheet: &[u8],
+    join: u32,
+    fold: u32,
+    need: &mut [u8],
+) -> u32
+    ensures { λ r. ⌜ r ≡ opens.answerOf (plans.refusalOfNeed (now (voice .entry)) (now (sheet .entry)) (numbers.settingsOf join 0 fold) (length (now (need .entry)))) ⌝ }
+    ensures { λ _. ⌜ now (need .exit) ≡ plans.needLeft (now (voice .entry)) (now (sheet .entry)) (numbers.settingsOf join 0 fold) (now (need .entry)) ⌝ }
+{
+    match stub::check(voice, sheet, numbers::settings_of(join, 0, fold)) {
+        Checked::Refused(cause) => refusal::number(cause),
+        Checked::Passed(fit) => planned::report_need(fit.need, need),
+    }
+}
+
+// Makes a call: 0, or the number of the refusal.
+#[no_mangle]
+pub extern "C" fn diphone_plan(
+    voice: &[u8],
+    sheet: &[u8],
+    join: u32,
+    filter: u32,
+    fold: u32,
+    index: &mut [u8],
+    marks: &mut [u8],
+    sizes: &mut [u8],
+    rows: &mut [u8],
+    excitation: &mut [u8],
+    decoded: &mut [u8],
+    state: &mut [u8],
+    summary: &mut [u8],
+) -> u32
+    ensures { λ r.
+        ⌜
+        r ≡ opens.answerOf
+        (plans.refusalOfPlan (now (voice .entry)) (now (sheet .entry)) (numbers.settingsOf join filter fold)
+        (plans.handed (now (index .entry)) (now (marks .entry)) (now (sizes .entry)) (now (rows .entry)) (now (excitation .entry)) (now (decoded .entry)) (now (state .entry)) (now (summary .entry))))
+        ⌝ }
+    ensures { λ _.
+        ⌜
+        plans.handed (now (index .exit)) (now (marks .exit)) (now (sizes .exit)) (now (rows .exit)) (now (excitation .exit)) (now (decoded .exit)) (now (state .exit)) (now (summary .exit)) ≡
+        plans.handedAfter (now (voice .entry)) (now (sheet .entry)) (numbers.settingsOf join filter fold)
+        (plans.handed (now (index .entry)) (now (marks .entry)) (now (sizes .entry)) (now (rows .entry)) (now (excitation .entry)) (now (decoded .entry)) (now (state .entry)) (now (summary .entry)))
+        ⌝ }
+{
+    let settings = numbers::settings_of(join, filter, fold);
+    match stub::check(voice, sheet, settings) {
+        Checked::Refused(cause) => refusal::number(cause),
+        Checked::Passed(fit) => planned::plan_checked(
+            voice,
+            sheet,
+            settings,
+            fit,
+            index,
+            marks,
+            sizes,
+            rows,
+            excitation,
+            decoded,
+            state,
+            summary,
+        ),
     }
 }

@@ -33,7 +33,7 @@ use Rattle.lpc.specs.Filter.{cut, outputs, samples, periodsFrom}
 use Rattle.lpc.specs.Fixed.{scaledBy, rowValue, fixedSum, divided, fixedNext, fixedFilter}
 use Rattle.lpc.specs.State.{freshState, periodsBy}
 use Rattle.call.specs.Call.{simplePlan, planBy, planOf, periodsTaken, periodsOf}
-use Rattle.call.specs.Buffers.{filled, needOf, fits, checkRefusal, callRefusal, summaryOf, plannedOf}
+use Rattle.call.specs.Buffers.{filled, needOf, holds, fits, checkRefusal, callRefusal, summaryOf, plannedOf}
 use Rattle.law.specs.ProvedExamples.{Table, Printed, Edges, PorterErrors, exampleVoice, segmentsOf}
 
 -- the twelve rows
@@ -57,7 +57,7 @@ table =
 
 -- the printed example
 pub printed : Printed
-unfolding exampleVoice over flat upto littleEndian bytesOf every firstFailing low narrow same before among lead step waits complete utf8 spaceAt trimStartBy trimStart trimEnd trim magic hasMagic isWhole sectionsFrom sections find saysDiphone isDiphone headerOf inScale goodNumbers goodScales goodHeader entryAt wholeEntry entriesFrom voiceAt placesOf voiceOf lookup insert sort sorted sortedIndex offset residualOf samplesOf samplesFrom rowOf longest hasNeeded risingIn goodTables withinFrames distinct goodIndex openingRefusal _andThen_ groups count printable name isFinite finite valueOf value asF32 segment target repeated sheetFrom sheetRefusal sheetOf vowels consonants vc isVowel foldName folded nameOf inCluster firstTried entryOf samplesAt midway unitsOfPair unitsFrom unitsAll endRefusal f0At goesOn nextTime markAt climb slopeOf climbTo marksFrom pitchMarks marksOfPeriods naturalMarks naturalUnits markRefusal decodedBy sourceBy sourceOf centred nearestFrom nearestPeriod paceOf placeAfterSize periodOf takeUnit takenFrom taken cut outputs samples periodsFrom scaledBy rowValue fixedSum divided fixedNext fixedFilter freshState periodsBy simplePlan planBy planOf periodsTaken sizesOf rowsOf excitationOf periodsOf decodedOver filled decodeRoom indexFits needOf fits checkRefusal callRefusal summaryOf plannedOf sampleOf quantisedValue add sub mul div lt le ne ofBits ofInt toUnsigned toSigned
+unfolding exampleVoice over flat upto littleEndian bytesOf every firstFailing low narrow same before among lead step waits complete utf8 spaceAt trimStartBy trimStart trimEnd trim magic hasMagic isWhole sectionsFrom sections find saysDiphone isDiphone headerOf inScale goodNumbers goodScales goodHeader entryAt wholeEntry entriesFrom voiceAt placesOf voiceOf lookup insert sort sorted sortedIndex offset residualOf samplesOf samplesFrom rowOf longest hasNeeded risingIn goodTables withinFrames distinct goodIndex openingRefusal _andThen_ groups count printable name isFinite finite valueOf value asF32 segment target repeated sheetFrom sheetRefusal sheetOf vowels consonants vc isVowel foldName folded nameOf inCluster firstTried entryOf samplesAt midway unitsOfPair unitsFrom unitsAll endRefusal f0At goesOn nextTime markAt climb slopeOf climbTo marksFrom pitchMarks marksOfPeriods naturalMarks naturalUnits markRefusal decodedBy sourceBy sourceOf centred nearestFrom nearestPeriod paceOf placeAfterSize periodOf takeUnit takenFrom taken cut outputs samples periodsFrom scaledBy rowValue fixedSum divided fixedNext fixedFilter freshState periodsBy simplePlan planBy planOf periodsTaken sizesOf rowsOf excitationOf periodsOf decodedOver filled decodeRoom indexFits needOf holds fits checkRefusal callRefusal summaryOf plannedOf sampleOf quantisedValue add sub mul div lt le ne ofBits ofInt toUnsigned toSigned
 printed = record { summary = refl; periods = refl; buffers = refl }
 
 -- the edges

@@ -1,0 +1,2 @@
+-- The root of checking's definitions.
+pub mod Checks

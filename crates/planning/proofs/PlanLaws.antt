@@ -1,0 +1,111 @@
+-- A checked call: refused by its buffers, or filled.
+use mathlib.Core.Path.{_≡_, refl, sym, ap, _∙_}
+use mathlib.Core.Bool.{Bool, true, false}
+use mathlib.Core.List.{List}
+use mathlib.Core.Option.{Option, none, some}
+use Prim.Native.Nat.{ℕ}
+use Rattle.base.specs.Choice.{pick}
+use Rattle.base.specs.Lists.{orNext}
+use Rattle.base.proofs.ListLaws.{next-none}
+use Rattle.refusal.specs.declared.Refusal.{Refusal}
+use Rattle.refusal.specs.declared.Refusal.the-variants.{ShortBuffer}
+use Rattle.voice.specs.declared.VoiceHeader.{VoiceHeader}
+use Rattle.voice.specs.Voice.{voiceOf}
+use Rattle.voice.specs.Opening.{openingRefusal}
+use Rattle.voice.proofs.TableLaws.{header-is}
+use Rattle.sheet.specs.Sheet.{sheetOf, sheetRefusal}
+use Rattle.lpc.specs.declared.FilterState.{FilterState}
+use Rattle.lpc.specs.State.{freshState}
+use Rattle.call.specs.declared.Settings.{Settings}
+use Rattle.call.specs.declared.Need.{Need}
+use Rattle.call.specs.declared.Summary.{Summary}
+use Rattle.call.specs.declared.Called.the-variants.{Spoken}
+use Rattle.call.specs.declared.Planned.{Planned}
+use Rattle.call.specs.Buffers.{Buffers, lent, needOf, holds, lengthsOf, fits, filled, checkRefusal, callRefusal, summaryOf, freshOf, refusedBy, answerBy, plannedOf, overAll, buffersAfter}
+use Rattle.checking.specs.declared.Fit.{Fit}
+use Rattle.checking.specs.Checks.{Fits}
+use Rattle.planning.specs.Planning.{summaryBy, CanFill}
+
+module _ (file sheet : List ℕ) (o : Settings) (b : Buffers) (p : checkRefusal file sheet o ≡ none) where
+  pub passed-by : callRefusal file sheet o b ≡ pick (fits (voiceOf file) (sheetOf sheet) o b) none (some ShortBuffer)
+  unfolding callRefusal
+  passed-by = ap (λ (r : Option Refusal). orNext r (pick (fits (voiceOf file) (sheetOf sheet) o b) none (some ShortBuffer))) p
+
+  pub short-call : fits (voiceOf file) (sheetOf sheet) o b ≡ false → callRefusal file sheet o b ≡ some ShortBuffer
+  short-call e = passed-by ∙ ap (λ (t : Bool). pick t none (some ShortBuffer)) e
+
+  pub whole-call : fits (voiceOf file) (sheetOf sheet) o b ≡ true → callRefusal file sheet o b ≡ none
+  whole-call e = passed-by ∙ ap (λ (t : Bool). pick t none (some ShortBuffer)) e
+
+module _ (file sheet : List ℕ) (o : Settings) (b : Buffers) where
+  pub refused-planned : (r : Refusal) → callRefusal file sheet o b ≡ some r → plannedOf file sheet o b ≡ refusedBy r
+  unfolding plannedOf
+  refused-planned r e = rw e
+
+  pub refused-buffers : (r : Refusal) → callRefusal file sheet o b ≡ some r → buffersAfter file sheet o b ≡ b
+  unfolding buffersAfter
+  refused-buffers r e = rw e
+
+  pub spoken-planned : callRefusal file sheet o b ≡ none → plannedOf file sheet o b ≡ answerBy (voiceOf file) (sheetOf sheet) o none
+  unfolding plannedOf
+  spoken-planned e = rw e
+
+  pub spoken-buffers : callRefusal file sheet o b ≡ none → buffersAfter file sheet o b ≡ overAll (filled (voiceOf file) (sheetOf sheet) o) b
+  unfolding buffersAfter
+  spoken-buffers e = rw e
+
+-- ---- what the functions return
+
+-- a call whose check passed
+module _ (file sheet : List ℕ) (o : Settings) (f : Fit) (h : Fits file sheet o f) (b : Buffers) where
+  pub fits-is : fits (voiceOf file) (sheetOf sheet) o b ≡ holds (f .need) (lengthsOf b)
+  unfolding fits
+  fits-is = ap (λ (n : Need). holds n (lengthsOf b)) (sym (h .need))
+
+  pub can-fill : fits (voiceOf file) (sheetOf sheet) o b ≡ true → CanFill file sheet o (f .voice) (f .places) (f .need) (lengthsOf b)
+  unfolding checkRefusal
+  can-fill e =
+      record {
+        planned = next-none (sheetRefusal sheet) _ (next-none (openingRefusal file) _ (h .passed) .1) .1;
+        opened = h .opened;
+        places = h .places;
+        need = h .need;
+        room = sym fits-is ∙ e;
+      }
+
+  summary-is : summaryOf (voiceOf file) (sheetOf sheet) o ≡ summaryBy (voiceOf file .header .rate) (voiceOf file .header .order) (needOf (voiceOf file) (sheetOf sheet) o)
+  unfolding summaryOf needOf
+  summary-is = refl
+
+  fresh-is : freshOf (voiceOf file) o ≡ freshState (o .filter) (voiceOf file .header .order) (voiceOf file .header .«coeff_min») (voiceOf file .header .«coeff_range»)
+  unfolding freshOf
+  fresh-is = refl
+
+  pub spoken-ends : (s : Summary) (t : FilterState) (after : Buffers) → fits (voiceOf file) (sheetOf sheet) o b ≡ true
+      → s ≡ summaryBy (f .voice .header .rate) (f .voice .header .order) (f .need)
+      → t ≡ freshState (o .filter) (f .voice .header .order) (f .voice .header .«coeff_min») (f .voice .header .«coeff_range»)
+      → after ≡ overAll (filled (voiceOf file) (sheetOf sheet) o) b
+      → (record { answer = Spoken s; state = t } ≡ plannedOf file sheet o b) × (after ≡ buffersAfter file sheet o b)
+  spoken-ends s t after e x y z =
+      let n = whole-call file sheet o b (h .passed) e in
+      let i = header-is file (f .voice) (h .opened .places) in
+      let a : s ≡ summaryOf (voiceOf file) (sheetOf sheet) o = x ∙ sym (by-header (f .voice .header) (f .need) i (h .need)) in
+      let c : t ≡ freshOf (voiceOf file) o = y ∙ sym (fresh-is ∙ ap (λ (k : VoiceHeader). freshState (o .filter) (k .order) (k .«coeff_min») (k .«coeff_range»)) i) in
+      (both a c ∙ sym (spoken-planned file sheet o b n), z ∙ sym (spoken-buffers file sheet o b n))
+    where
+      by-header : (k : VoiceHeader) (q : Need) → voiceOf file .header ≡ k → q ≡ needOf (voiceOf file) (sheetOf sheet) o
+          → summaryOf (voiceOf file) (sheetOf sheet) o ≡ summaryBy (k .rate) (k .order) q
+      by-header k q i j = summary-is ∙ ap (λ (k : VoiceHeader). summaryBy (k .rate) (k .order) (needOf (voiceOf file) (sheetOf sheet) o)) i ∙ ap (summaryBy (k .rate) (k .order)) (sym j)
+
+      both : {s s′ : Summary} {t t′ : FilterState} → s ≡ s′ → t ≡ t′ → _≡_ {A = Planned} (record { answer = Spoken s; state = t }) (record { answer = Spoken s′; state = t′ })
+      both p q = cc
+
+  pub short-ends : (p : Planned) (after : Buffers) → holds (f .need) (lengthsOf b) ≡ false → p ≡ refusedBy ShortBuffer → after ≡ b
+      → (p ≡ plannedOf file sheet o b) × (after ≡ buffersAfter file sheet o b)
+  short-ends p after e x y =
+      let n = short-call file sheet o b (h .passed) (fits-is ∙ e) in
+      (x ∙ sym (refused-planned file sheet o b ShortBuffer n), y ∙ sym (refused-buffers file sheet o b ShortBuffer n))
+
+-- buffers that are the same, one by one
+pub lent-same : {a a′ b b′ c c′ d d′ e e′ f f′ : List ℕ} → (a ≡ a′) × ((b ≡ b′) × ((c ≡ c′) × ((d ≡ d′) × ((e ≡ e′) × (f ≡ f′))))) → lent a b c d e f ≡ lent a′ b′ c′ d′ e′ f′
+lent-same q = let a = q .0 in let b = q .1 .0 in let c = q .1 .1 .0 in let d = q .1 .1 .1 .0 in let e = q .1 .1 .1 .1 .0 in let f = q .1 .1 .1 .1 .1 in cc

@@ -1,0 +1,2 @@
+-- The root of planning's definitions.
+pub mod Planning
