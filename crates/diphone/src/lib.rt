@@ -1,12 +1,49 @@
-// A spoken call's pulls: one pitch period of samples at a time.
+// A call, and its pulls: one pitch period of samples at a time.
 mod pulling;
 
 ghost use mathlib.Core.Path.{_≡_};
+ghost use Rattle.call.specs.Buffers as calls;
 ghost use Rattle.call.specs.Pull.{lentOf, pullOf};
 use call::Answer;
+use call::Planned;
 use call::Pulled;
+use call::Settings;
+use checking::Checked;
 use lpc::FilterState;
 use refusal::Refusal;
+
+// A call: opens the voice, reads the sheet, makes the marks, then fills the buffers. A refused call
+// leaves them as they were.
+pub fn plan(
+    voice: &[u8],
+    sheet: &[u8],
+    settings: Settings,
+    index: &mut [u8],
+    marks: &mut [u8],
+    sizes: &mut [u8],
+    rows: &mut [u8],
+    excitation: &mut [u8],
+    decoded: &mut [u8],
+) -> Planned
+    ensures { λ r.
+        ⌜
+        r ≡ calls.plannedOf (now (voice .entry)) (now (sheet .entry)) settings
+        (calls.lent (now (index .entry)) (now (marks .entry)) (now (sizes .entry)) (now (rows .entry)) (now (excitation .entry)) (now (decoded .entry)))
+        ⌝ }
+    ensures { λ _.
+        ⌜
+        calls.lent (now (index .exit)) (now (marks .exit)) (now (sizes .exit)) (now (rows .exit)) (now (excitation .exit)) (now (decoded .exit)) ≡
+        calls.buffersAfter (now (voice .entry)) (now (sheet .entry)) settings
+        (calls.lent (now (index .entry)) (now (marks .entry)) (now (sizes .entry)) (now (rows .entry)) (now (excitation .entry)) (now (decoded .entry)))
+        ⌝ }
+{
+    match checking::check(voice, sheet, settings) {
+        Checked::Refused(cause) => planning::refused(cause),
+        Checked::Passed(fit) => planning::plan_checked(
+            voice, sheet, settings, fit, index, marks, sizes, rows, excitation, decoded,
+        ),
+    }
+}
 
 // The next period: its samples go to the front of `samples`, two bytes each. Lent are the sizes, rows
 // and excitation that the call filled.

@@ -1,7 +1,7 @@
--- Demand 3, over the definitions.
+-- Demand 3, over the definitions and over the contracts.
 use mathlib.Core.Path.{_≡_, refl, sym, ap, subst, _∙_}
 use mathlib.Core.List.{List, []}
-use mathlib.Core.Option.{none as nothing}
+use mathlib.Core.Option.{Option, none as nothing, some}
 use Prim.Native.Nat.{ℕ, _*_, _/_, _≤_, _<_}
 use native.Mathlib.Nat.{le-of-eq, zero-add}
 use native.Mathlib.Omega.{arith}
@@ -15,15 +15,20 @@ use Rattle.base.proofs.BufferLaws.{flat-append}
 use Rattle.base.proofs.BoundLaws.{Below, each-take}
 use Rattle.refusal.specs.declared.Refusal.{Refusal}
 use Rattle.refusal.specs.declared.Refusal.the-variants.{ShortSlice}
+use Rattle.voice.specs.Voice.{Voice, voiceOf}
 use Rattle.voice.proofs.OpeningLaws.{Opens, opens}
-use Rattle.sheet.specs.Sheet.{Sheet}
+use Rattle.sheet.specs.Sheet.{Sheet, sheetOf}
 use Rattle.sheet.proofs.SheetLaws.{sheet-refers}
 use Rattle.excitation.specs.Taken.{sizesOf, rowsOf}
 use Rattle.excitation.proofs.SizedLaws.{taken-sized, rows-length}
 use Rattle.lpc.specs.declared.FilterState.{FilterState}
 use Rattle.call.specs.declared.Settings.{Settings}
 use Rattle.call.specs.Call.{planOf, periodsTaken, periodsOf, samplesOfCall}
-use Rattle.call.specs.Buffers.{callRefusal, checkRefusal, plannedOf, freshOf}
+use Rattle.call.specs.declared.Summary.{Summary}
+use Rattle.call.specs.declared.Called.{Called}
+use Rattle.call.specs.declared.Called.the-variants.{Spoken}
+use Rattle.call.specs.declared.Planned.{Planned}
+use Rattle.call.specs.Buffers.{Buffers, callRefusal, checkRefusal, summaryOf, answerBy, plannedOf, buffersAfter, freshOf}
 use Rattle.call.specs.declared.Answer.the-variants.{Done, Refused}
 use Rattle.call.specs.Pull.{lentOf, pullOf}
 use Rattle.call.specs.Machine.{Shown, pulls, shows, machine, written, samplesWritten, bytesOfPeriods, given, SaysDone}
@@ -32,8 +37,8 @@ use Rattle.call.proofs.MachineLaws.{machine-writes, machine-at, machine-within,
 use Rattle.call.proofs.CallLaws.{periods-ahead, periods-equal}
 use Rattle.call.proofs.FilledLaws.{call-planned, periods-low, periods-back}
 use Rattle.law.proofs.LentLaws.{lentTaken, lent-filled}
-use Rattle.law.specs.SpokenCall.{SpokenCall, LentBytes, voiceIn, sheetIn, periodsIn, samplesIn, bytesAfter, readAs, stateAfter, pullsAfter, Longer, BeginsWith}
-use Rattle.law.specs.PullsMade.{PullsMade, none, more, MadeAfter}
+use Rattle.law.specs.SpokenCall.{SpokenCall, LentBytes, lentBy, voiceIn, sheetIn, periodsIn, samplesIn, bytesAfter, readAs, stateAfter, pullsAfter, Longer, BeginsWith}
+use Rattle.law.specs.Made.{PlanMade, made, PullsMade, none, more, MadeAfter}
 use Rattle.law.specs.Demand3.{WholeLists, Claim, Demand3, answerAt, givenBefore}
 
 -- ---- what a spoken call shows
@@ -185,9 +190,42 @@ made-pulls b s _ _ (more {ds} {os} κs _ sizes rows excitation samples r left hz
     let i = made-pulls b (r .state) ds os m in
     rw (i, d, a, hz, hr, he)
 
+-- A call of `diphone::plan`, known by its contract, is the definition's.
+plan-made : (file sheet : List ℕ) (o : Settings) (b after : Buffers) (r : Planned) → PlanMade file sheet o b r after → (r ≡ plannedOf file sheet o b) × (after ≡ buffersAfter file sheet o b)
+plan-made _ _ _ _ _ _ (made κs voice sheet index marks sizes rows excitation decoded o r after post) = (post .0, post .1)
+
+answer-none : (v : Voice) (s : Sheet) (o : Settings) (m : Summary) (u : Option Refusal) → answerBy v s o u .answer ≡ Spoken m → u ≡ nothing
+answer-none v s o m nothing e = refl
+answer-none v s o m (some c) e = let z : _≡_ {A = ℕ} 0 1 = cc in absurd (omega arith)
+
+made-spoken : (file sheet : List ℕ) (o : Settings) (b after : Buffers) (r : Planned) (m : Summary) → PlanMade file sheet o b r after → r .answer ≡ Spoken m → callRefusal file sheet o b ≡ nothing
+unfolding plannedOf
+made-spoken file sheet o b after r m p e =
+    answer-none (voiceOf file) (sheetOf sheet) o m (callRefusal file sheet o b) (sym (ap (λ (x : Planned). x .answer) (plan-made file sheet o b after r p .0)) ∙ e)
+
+spoken-made : (file sheet : List ℕ) (o : Settings) (b after : Buffers) (r : Planned) → PlanMade file sheet o b r after → callRefusal file sheet o b ≡ nothing
+    → r .answer ≡ Spoken (summaryOf (voiceOf file) (sheetOf sheet) o)
+unfolding plannedOf
+spoken-made file sheet o b after r p e = ap (λ (x : Planned). x .answer) (plan-made file sheet o b after r p .0 ∙ ap (answerBy (voiceOf file) (sheetOf sheet) o) e)
+
+same-summary : {m n : Summary} → _≡_ {A = Called} (Spoken m) (Spoken n) → m ≡ n
+same-summary e = cc
+
 made-after : (c : SpokenCall) (ds : List (List ℕ)) (os : List Shown) → MadeAfter c ds os → os ≡ pullsAfter c ds
-unfolding pullsAfter
-made-after c ds os m = made-pulls (bytesAfter c) (stateAfter c) ds os m
+unfolding pullsAfter bytesAfter
+made-after c ds os m =
+    let p = plan-made _ _ _ _ _ _ (m .call) in
+    let s : m .summary ≡ summaryOf (voiceIn c) (sheetIn c) (c .settings) = same-summary (sym (m .spoken) ∙ spoken-made _ _ _ _ _ _ (m .call) (c .notRefused)) in
+    made-pulls (lentBy (m .summary) (m .left)) (m .returned .state) ds os (m .pulls)
+    ∙ ap (λ (x : Planned). pulls (x .state) (readAs (lentBy (m .summary) (m .left))) ds) (p .0)
+    ∙ ap (λ (b : Buffers). pulls (stateAfter c) (readAs (lentBy (m .summary) b)) ds) (p .1)
+    ∙ ap (λ (x : Summary). pulls (stateAfter c) (readAs (lentBy x (buffersAfter (c .voiceFile) (c .sheetFile) (c .settings) (c .lent)))) ds) s
 
 pub demand3 : Demand3
-demand3 = record { defined = claim (λ c ds os. os ≡ pullsAfter c ds) (λ c ds os e. e); made = claim MadeAfter made-after }
+demand3 =
+    record {
+      defined = claim (λ c ds os. os ≡ pullsAfter c ds) (λ c ds os e. e);
+      made = claim MadeAfter made-after;
+      spoken = made-spoken;
+      spokenThen = spoken-made;
+    }

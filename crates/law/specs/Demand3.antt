@@ -1,16 +1,24 @@
 -- Demand 3, in full: one claim on whole lists of pulls.
 use mathlib.Core.Path.{_≡_}
 use mathlib.Core.List.{List, []}
+use mathlib.Core.Option.{none}
 use Prim.Native.Nat.{ℕ, _/_, _≤_, _<_}
 use lib.ListN.{length, getD, take}
 use Rattle.base.specs.Buffers.{flat}
 use Rattle.refusal.specs.declared.Refusal.{Refusal}
 use Rattle.refusal.specs.declared.Refusal.the-variants.{ShortSlice}
+use Rattle.voice.specs.Voice.{voiceOf}
+use Rattle.sheet.specs.Sheet.{sheetOf}
+use Rattle.call.specs.declared.Settings.{Settings}
+use Rattle.call.specs.declared.Summary.{Summary}
+use Rattle.call.specs.declared.Called.the-variants.{Spoken}
+use Rattle.call.specs.declared.Planned.{Planned}
+use Rattle.call.specs.Buffers.{Buffers, callRefusal, summaryOf}
 use Rattle.call.specs.declared.Answer.{Answer}
 use Rattle.call.specs.declared.Answer.the-variants.{Done, Refused}
 use Rattle.call.specs.Machine.{Shown, machine, written, samplesWritten, bytesOfPeriods, given, SaysDone}
 use Rattle.law.specs.SpokenCall.{SpokenCall, periodsIn, pullsAfter, Longer, BeginsWith}
-use Rattle.law.specs.PullsMade.{MadeAfter}
+use Rattle.law.specs.Made.{PlanMade, MadeAfter}
 
 -- the answer of pull i of a list, counted from 0, and how many periods the pulls before it gave
 abbrev pub answerAt : List Shown → ℕ → Answer
@@ -42,7 +50,11 @@ pub record Claim (After : SpokenCall → List (List ℕ) → List Shown → Type
   pub longer : (c d : SpokenCall) → Longer d c → (ds es : List (List ℕ)) (os ps : List Shown) → After c ds os → After d es ps → SaysDone os → SaysDone ps
       → BeginsWith d c (samplesWritten ps) (samplesWritten os)
 
--- Demand 3 over the definition of a pull, and over the contract of `diphone::pull` for any list of calls.
+-- Demand 3 over the definitions, and over the contracts of `diphone::plan` and `diphone::pull` for any list of calls.
 pub record Demand3 : Type 0 where
   pub defined : Claim (λ c ds os. os ≡ pullsAfter c ds)
   pub made : Claim MadeAfter
+  -- 'a call not refused': a call made is one just where it answers that it is spoken
+  pub spoken : (file sheet : List ℕ) (o : Settings) (b after : Buffers) (r : Planned) (m : Summary) → PlanMade file sheet o b r after → r .answer ≡ Spoken m → callRefusal file sheet o b ≡ none
+  pub spokenThen : (file sheet : List ℕ) (o : Settings) (b after : Buffers) (r : Planned) → PlanMade file sheet o b r after → callRefusal file sheet o b ≡ none
+      → r .answer ≡ Spoken (summaryOf (voiceOf file) (sheetOf sheet) o)

@@ -1,5 +1,5 @@
 -- The root of law's definitions.
 pub mod SpokenCall
-pub mod PullsMade
+pub mod Made
 pub mod Demand3
 pub mod ProvedExamples

@@ -14,6 +14,7 @@ use Rattle.sheet.specs.Begins.{Begins}
 use Rattle.units.specs.Selecting.{firstTriedFound}
 use Rattle.lpc.specs.declared.FilterState.{FilterState}
 use Rattle.call.specs.declared.Settings.{Settings}
+use Rattle.call.specs.declared.Summary.{Summary}
 use Rattle.call.specs.Call.{periodsOf, samplesOfCall}
 use Rattle.call.specs.Buffers.{Buffers, callRefusal, summaryOf, plannedOf, buffersAfter}
 use Rattle.call.specs.Pull.{Lent, lentOf}
@@ -47,11 +48,11 @@ pub record LentBytes : Type 0 where
   pub rows : List ℕ
   pub excitation : List ℕ
 
+abbrev pub lentBy : Summary → Buffers → LentBytes
+lentBy m b = record { sizes = take (4 * m .periods) (b .sizes); rows = take (2 * (m .periods * m .order)) (b .rows); excitation = take (m .samples) (b .excitation) }
+
 unfoldable pub bytesAfter : SpokenCall → LentBytes
-bytesAfter c =
-    let m = summaryOf (voiceIn c) (sheetIn c) (c .settings) in
-    let b = buffersAfter (c .voiceFile) (c .sheetFile) (c .settings) (c .lent) in
-    record { sizes = take (4 * m .periods) (b .sizes); rows = take (2 * (m .periods * m .order)) (b .rows); excitation = take (m .samples) (b .excitation) }
+bytesAfter c = lentBy (summaryOf (voiceIn c) (sheetIn c) (c .settings)) (buffersAfter (c .voiceFile) (c .sheetFile) (c .settings) (c .lent))
 
 abbrev pub readAs : LentBytes → Lent
 readAs b = lentOf (b .sizes) (b .rows) (b .excitation)
