@@ -1,1 +1,6 @@
--- Laws about checking.
+-- Laws about checking's definitions.
+pub mod NaturalLaws
+pub mod ModifiedLaws
+pub mod PlanLaws
+pub mod NeedLaws
+pub mod CheckLaws

@@ -1,2 +1,3 @@
 -- The root of checking's definitions.
+pub mod Joining
 pub mod Checks

@@ -1,8 +1,28 @@
 // The check of a call, which writes nothing.
+ghost use mathlib.Core.Path.{_≡_};
+ghost use mathlib.Core.Bool.{Bool, false};
+ghost use Prim.Native.Nat.{_≤_, _<_};
+ghost use Rattle.voice.specs.Voice.{Voice, voiceOf};
+ghost use Rattle.voice.specs.Opening.{IsOpen};
+ghost use Rattle.sheet.specs.Sheet.{sheetOf};
+ghost use Rattle.sheet.specs.Places.{answerIn, sheetPlaces};
+ghost use Rattle.units.specs.Selecting.{folded};
+ghost use Rattle.units.specs.Units.{unitsOf};
+ghost use Rattle.call.specs.Call.{simplePlan, modifiedPlan, emptyPlan, planBy, planOf};
+ghost use Rattle.checking.specs.Joining.{Joins, needBy};
+ghost use Rattle.checking.specs.Checks.{Checks};
+use call::JoinType;
 use call::Need;
+use call::Settings;
+use marks::CheckedMarks;
+use marks::UnitMarks;
 use refusal::Refusal;
 use sheet::Places;
+use sheet::SheetAnswer;
+use units::CheckedEnds;
+use units::Selection;
 use voice::DiphoneVoice;
+use voice::Opened;
 
 // A call that nothing refuses but, perhaps, its buffers: the open voice, where the sheet has its
 // lists, and what the buffers need.
@@ -15,4 +35,212 @@ pub struct Fit {
 pub enum Checked {
     Refused(Refusal),
     Passed(Fit),
+}
+
+// The marks of a join: how many there are, how many of them are not above the greatest target end,
+// and the last of these, 0 where there is none.
+struct Counts {
+    marks: usize,
+    taken: usize,
+    last: usize,
+}
+
+// The marks of a join, or why they are refused.
+enum Joined {
+    Refused(Refusal),
+    Made(Counts),
+}
+
+// Makes the marks of the simple join, unit by unit.
+fn check_natural(file: &[u8], sheet: &[u8], by: Selection) -> Joined
+    requires { ⌜
+        (IsOpen (now file) (by .voice) × (by .sorted ≡ false)) ×
+        ((answerIn (sheetPlaces (now sheet)) ≡ SheetAnswer.Read (by .places)) × (0 < by .places .segments .count))
+        ⌝ }
+    ensures { λ r.
+        ⌜
+        Joins
+        (simplePlan (voiceOf (now (file .entry))) (unitsOf (voiceOf (now (file .entry))) (folded (by .fold) (sheetOf (now (sheet .entry)) .segments))))
+        r
+        ⌝ }
+{
+    let places = by.places;
+    let none = [0u8; 1];
+    let mut walk = units::step::first_unit(sheet, places);
+    let mut place = 0;
+    let mut left = 65536;
+    while units::step::has_unit(walk) {
+        let step = units::step::next_unit(file, &none, sheet, by, walk);
+        let unit = step.unit;
+        match marks::natural::check_unit_marks(
+            file,
+            by.voice,
+            place,
+            unit.first_period,
+            unit.last_period,
+            left,
+        ) {
+            UnitMarks::Refused(cause) => return Joined::Refused(cause),
+            UnitMarks::To(end, after) => {
+                place = end;
+                left = after;
+            }
+        }
+        walk = step.walk;
+    }
+    let count = 65536 - left;
+    Joined::Made(Counts {
+        marks: count,
+        taken: count,
+        last: place,
+    })
+}
+
+// Makes the target ends of the modified join, then its pitch marks, at a voice's rate.
+fn check_modified(sheet: &[u8], places: Places, rate: u32) -> Joined
+    requires { ⌜ answerIn (sheetPlaces (now sheet)) ≡ SheetAnswer.Read places ⌝ }
+    ensures { λ r.
+        ⌜
+        ((v : Voice) (fold : Bool) →
+        v .header .rate ≡ rate →
+        Joins
+        (modifiedPlan v (unitsOf v (folded fold (sheetOf (now (sheet .entry)) .segments))) (sheetOf (now (sheet .entry)) .targets))
+        r)
+        ⌝ }
+{
+    match units::walk::check_ends(sheet, places, rate) {
+        CheckedEnds::PastLimit => Joined::Refused(Refusal::PastLimit),
+        CheckedEnds::Fit(end) => match marks::check_marks(sheet, places, rate, end) {
+            CheckedMarks::Refused(cause) => Joined::Refused(cause),
+            CheckedMarks::Made(count, taken, last) => Joined::Made(Counts {
+                marks: count,
+                taken: taken,
+                last: last,
+            }),
+        },
+    }
+}
+
+// No mark is made.
+fn no_marks() -> Joined
+    ensures { λ r. ⌜ Joins emptyPlan r ⌝ }
+{
+    Joined::Made(Counts {
+        marks: 0,
+        taken: 0,
+        last: 0,
+    })
+}
+
+// The marks of two segments or more.
+fn check_join(file: &[u8], sheet: &[u8], by: Selection, join: JoinType) -> Joined
+    requires { ⌜
+        (IsOpen (now file) (by .voice) × (by .sorted ≡ false)) ×
+        ((answerIn (sheetPlaces (now sheet)) ≡ SheetAnswer.Read (by .places)) × (0 < by .places .segments .count))
+        ⌝ }
+    ensures { λ r.
+        ⌜
+        Joins
+        (planBy join (voiceOf (now (file .entry))) (folded (by .fold) (sheetOf (now (sheet .entry)) .segments)) (sheetOf (now (sheet .entry)) .targets))
+        r
+        ⌝ }
+{
+    match join {
+        JoinType::None => no_marks(),
+        JoinType::Simple => check_natural(file, sheet, by),
+        JoinType::ModifiedLpc => check_modified(sheet, by.places, by.voice.header.rate),
+    }
+}
+
+// The marks of a call: none where it has fewer than two segments.
+fn check_plan(
+    file: &[u8],
+    d: DiphoneVoice,
+    sheet: &[u8],
+    places: Places,
+    settings: Settings,
+) -> Joined
+    requires { ⌜ IsOpen (now file) d × (answerIn (sheetPlaces (now sheet)) ≡ SheetAnswer.Read places) ⌝ }
+    ensures { λ r. ⌜ Joins (planOf (voiceOf (now (file .entry))) (sheetOf (now (sheet .entry))) settings) r ⌝ }
+{
+    let segments = places.segments;
+    if segments.count < 2 {
+        return no_marks();
+    }
+    let by = Selection {
+        voice: d,
+        sorted: false,
+        places: places,
+        fold: settings.fold,
+    };
+    let join = settings.join;
+    check_join(file, sheet, by, join)
+}
+
+// What the buffers of a call with such marks need: fewer than two marks give no period.
+fn need_of(file: &[u8], d: DiphoneVoice, counts: Counts) -> Need
+    requires { ⌜ IsOpen (now file) d × (counts .taken ≤ 65536) ⌝ }
+    ensures { λ r. ⌜ r ≡ needBy (voiceOf (now (file .entry))) counts ⌝ }
+{
+    let decoded = voice::periods::decode_room(file, d);
+    if counts.marks < 2 {
+        return Need {
+            entries: d.count,
+            marks: counts.marks,
+            periods: 0,
+            rows: 0,
+            excitation: 0,
+            decoded: decoded,
+        };
+    }
+    Need {
+        entries: d.count,
+        marks: counts.marks,
+        periods: counts.taken,
+        rows: (d.header.order as usize) * counts.taken,
+        excitation: counts.last,
+        decoded: decoded,
+    }
+}
+
+// Checks 10 to 12, of an open voice and a sheet that was read.
+fn check_marks(
+    file: &[u8],
+    d: DiphoneVoice,
+    sheet: &[u8],
+    places: Places,
+    settings: Settings,
+) -> Checked
+    requires { ⌜ IsOpen (now file) d × (answerIn (sheetPlaces (now sheet)) ≡ SheetAnswer.Read places) ⌝ }
+    ensures { λ r. ⌜ Checks (now (file .entry)) (now (sheet .entry)) settings r ⌝ }
+{
+    match check_plan(file, d, sheet, places, settings) {
+        Joined::Refused(cause) => Checked::Refused(cause),
+        Joined::Made(counts) => Checked::Passed(Fit {
+            voice: d,
+            places: places,
+            need: need_of(file, d, counts),
+        }),
+    }
+}
+
+// Checks 8 to 12, of an open voice.
+fn check_sheet(file: &[u8], d: DiphoneVoice, sheet: &[u8], settings: Settings) -> Checked
+    requires { ⌜ IsOpen (now file) d ⌝ }
+    ensures { λ r. ⌜ Checks (now (file .entry)) (now (sheet .entry)) settings r ⌝ }
+{
+    match sheet::read_sheet(sheet) {
+        SheetAnswer::Refused(cause) => Checked::Refused(cause),
+        SheetAnswer::Read(places) => check_marks(file, d, sheet, places, settings),
+    }
+}
+
+// Checks 1 to 12, of any two files.
+pub fn check(file: &[u8], sheet: &[u8], settings: Settings) -> Checked
+    ensures { λ r. ⌜ Checks (now (file .entry)) (now (sheet .entry)) settings r ⌝ }
+{
+    match opening::check(file) {
+        Opened::Refused(cause) => Checked::Refused(cause),
+        Opened::Open(d) => check_sheet(file, d, sheet, settings),
+    }
 }

@@ -28,7 +28,7 @@ use Rattle.call.specs.Buffers.{Buffers, needOf, filled, fits, checkRefusal, cal
 use Rattle.checking.specs.declared.Fit.{Fit}
 use Rattle.checking.specs.declared.Checked.{Checked}
 use Rattle.checking.specs.declared.Checked.the-variants.{Passed, Refused as Fails}
-use Rattle.checking.specs.Checks.{Fits, Checks}
+use Rattle.checking.specs.Checks.{Passes, Checks}
 use Rattle.diphone_c.specs.Open.{answerOf, unlessRefused}
 use Rattle.diphone_c.specs.Numbers.{needBytes, summaryBytes}
 use Rattle.diphone_c.specs.State.{bytesOfState}
@@ -39,7 +39,7 @@ use Rattle.diphone_c.specs.Plan.{shortReport, refusalOfNeed, needLeft, H
 pub checks-refused : (file sheet : List ℕ) {o p : Settings} {r : Checked} {c : Refusal} → p ≡ o → Checks file sheet p r → r ≡ Fails c → checkRefusal file sheet o ≡ some c
 checks-refused file sheet {o} {p} {r} {c} e k q = subst (λ (x : Settings). Checks file sheet x (Fails c)) e (subst (Checks file sheet p) q k)
 
-pub checks-passed : (file sheet : List ℕ) {o p : Settings} {r : Checked} {f : Fit} → p ≡ o → Checks file sheet p r → r ≡ Passed f → Fits file sheet o f
+pub checks-passed : (file sheet : List ℕ) {o p : Settings} {r : Checked} {f : Fit} → p ≡ o → Checks file sheet p r → r ≡ Passed f → Passes file sheet o f
 checks-passed file sheet {o} {p} {r} {f} e k q = subst (λ (x : Settings). Checks file sheet x (Passed f)) e (subst (Checks file sheet p) q k)
 
 -- ---- diphone_need

@@ -3,7 +3,7 @@ ghost use mathlib.Core.Path.{_≡_};
 ghost use Prim.Native.Nat.{_≤_};
 ghost use lib.ListN.{length};
 ghost use Rattle.base.specs.Buffers.{over};
-ghost use Rattle.checking.specs.Checks.{Fits};
+ghost use Rattle.checking.specs.Checks.{Passes};
 ghost use Rattle.call.specs.Buffers as calls;
 ghost use Rattle.diphone_c.specs.Open.{answerOf, unlessRefused};
 ghost use Rattle.diphone_c.specs.Numbers as numbers;
@@ -66,7 +66,7 @@ pub fn plan_checked(
     state: &mut [u8],
     summary: &mut [u8],
 ) -> u32
-    requires { ⌜ Fits (now voice) (now sheet) settings fit ⌝ }
+    requires { ⌜ Passes (now voice) (now sheet) settings fit ⌝ }
     ensures { λ r.
         ⌜
         r ≡ answerOf

@@ -4,7 +4,7 @@ ghost use Prim.Native.Nat.{_≤_};
 ghost use lib.ListN.{length};
 ghost use Rattle.base.specs.Buffers.{over};
 ghost use Rattle.call.specs.Buffers as calls;
-ghost use Rattle.checking.specs.Checks.{Fits, Checks};
+ghost use Rattle.checking.specs.Checks.{Passes, Checks};
 ghost use Rattle.diphone_c.specs.Plan as plans;
 ghost use Rattle.diphone_c.specs.State as states;
 use call::Called;
@@ -34,7 +34,7 @@ pub fn plan_checked(
     excitation: &mut [u8],
     decoded: &mut [u8],
 ) -> Planned
-    requires { ⌜ Fits (now file) (now sheet) settings fit ⌝ }
+    requires { ⌜ Passes (now file) (now sheet) settings fit ⌝ }
     ensures { λ r. ⌜ r ≡ calls.plannedOf (now (file .entry)) (now (sheet .entry)) settings (calls.lent (now (index .entry)) (now (marks .entry)) (now (sizes .entry)) (now (rows .entry)) (now (excitation .entry)) (now (decoded .entry))) ⌝ }
     ensures { λ _. ⌜ calls.lent (now (index .exit)) (now (marks .exit)) (now (sizes .exit)) (now (rows .exit)) (now (excitation .exit)) (now (decoded .exit)) ≡ calls.buffersAfter (now (file .entry)) (now (sheet .entry)) settings (calls.lent (now (index .entry)) (now (marks .entry)) (now (sizes .entry)) (now (rows .entry)) (now (excitation .entry)) (now (decoded .entry))) ⌝ }
 {

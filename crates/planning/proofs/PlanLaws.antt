@@ -23,7 +23,7 @@ use Rattle.call.specs.declared.Called.the-variants.{Spoken}
 use Rattle.call.specs.declared.Planned.{Planned}
 use Rattle.call.specs.Buffers.{Buffers, lent, needOf, holds, lengthsOf, fits, filled, checkRefusal, callRefusal, summaryOf, freshOf, refusedBy, answerBy, plannedOf, overAll, buffersAfter}
 use Rattle.checking.specs.declared.Fit.{Fit}
-use Rattle.checking.specs.Checks.{Fits}
+use Rattle.checking.specs.Checks.{Passes}
 use Rattle.planning.specs.Planning.{summaryBy, CanFill}
 
 module _ (file sheet : List ℕ) (o : Settings) (b : Buffers) (p : checkRefusal file sheet o ≡ none) where
@@ -57,7 +57,7 @@ module _ (file sheet : List ℕ) (o : Settings) (b : Buffers) where
 -- ---- what the functions return
 
 -- a call whose check passed
-module _ (file sheet : List ℕ) (o : Settings) (f : Fit) (h : Fits file sheet o f) (b : Buffers) where
+module _ (file sheet : List ℕ) (o : Settings) (f : Fit) (h : Passes file sheet o f) (b : Buffers) where
   pub fits-is : fits (voiceOf file) (sheetOf sheet) o b ≡ holds (f .need) (lengthsOf b)
   unfolding fits
   fits-is = ap (λ (n : Need). holds n (lengthsOf b)) (sym (h .need))

@@ -5,7 +5,7 @@ ghost use lib.ListN.{length};
 ghost use Rattle.voice.specs.Voice.{voiceOf};
 ghost use Rattle.sheet.specs.Sheet.{sheetOf};
 ghost use Rattle.call.specs.Buffers as calls;
-ghost use Rattle.checking.specs.Checks.{Fits};
+ghost use Rattle.checking.specs.Checks.{Passes};
 ghost use Rattle.planning.specs.Planning as planning;
 ghost use Rattle.base.specs.Buffers.{over};
 use call::Called;
@@ -104,7 +104,7 @@ fn plan_filled(
     excitation: &mut [u8],
     decoded: &mut [u8],
 ) -> Planned
-    requires { ⌜ Fits (now file) (now sheet) settings fit × (calls.fits (voiceOf (now file)) (sheetOf (now sheet)) settings (calls.lent (now index) (now marks) (now sizes) (now rows) (now excitation) (now decoded)) ≡ true) ⌝ }
+    requires { ⌜ Passes (now file) (now sheet) settings fit × (calls.fits (voiceOf (now file)) (sheetOf (now sheet)) settings (calls.lent (now index) (now marks) (now sizes) (now rows) (now excitation) (now decoded)) ≡ true) ⌝ }
     ensures { λ r. ⌜ r ≡ calls.plannedOf (now (file .entry)) (now (sheet .entry)) settings (calls.lent (now (index .entry)) (now (marks .entry)) (now (sizes .entry)) (now (rows .entry)) (now (excitation .entry)) (now (decoded .entry))) ⌝ }
     ensures { λ _. ⌜ calls.lent (now (index .exit)) (now (marks .exit)) (now (sizes .exit)) (now (rows .exit)) (now (excitation .exit)) (now (decoded .exit)) ≡ calls.buffersAfter (now (file .entry)) (now (sheet .entry)) settings (calls.lent (now (index .entry)) (now (marks .entry)) (now (sizes .entry)) (now (rows .entry)) (now (excitation .entry)) (now (decoded .entry))) ⌝ }
 {
@@ -147,7 +147,7 @@ pub fn plan_checked(
     excitation: &mut [u8],
     decoded: &mut [u8],
 ) -> Planned
-    requires { ⌜ Fits (now file) (now sheet) settings fit ⌝ }
+    requires { ⌜ Passes (now file) (now sheet) settings fit ⌝ }
     ensures { λ r. ⌜ r ≡ calls.plannedOf (now (file .entry)) (now (sheet .entry)) settings (calls.lent (now (index .entry)) (now (marks .entry)) (now (sizes .entry)) (now (rows .entry)) (now (excitation .entry)) (now (decoded .entry))) ⌝ }
     ensures { λ _. ⌜ calls.lent (now (index .exit)) (now (marks .exit)) (now (sizes .exit)) (now (rows .exit)) (now (excitation .exit)) (now (decoded .exit)) ≡ calls.buffersAfter (now (file .entry)) (now (sheet .entry)) settings (calls.lent (now (index .entry)) (now (marks .entry)) (now (sizes .entry)) (now (rows .entry)) (now (excitation .entry)) (now (decoded .entry))) ⌝ }
 {

@@ -1,0 +1,35 @@
+use mathlib.Core.Path.{sym, ap, _∙_}
+use Rattle.sheet.specs.Places.{refusalOf}
+use Rattle.checking.proofs.CheckLaws.{sheet-refused}
+use borrow.Author.Needs.{needs}
+use Rattle.checking.proofs.check_sheet.Statement.{statement}
+use Rattle.checking.proofs.check_sheet.Tie as tie
+
+read-sheet-requires : tie.Need-read-sheet-requires
+read-sheet-requires c κs = search needs
+
+enum-known-cause : tie.Need-enum-known-cause
+enum-known-cause c = search needs
+
+enum-known-places : tie.Need-enum-known-places
+enum-known-places c = search needs
+
+check-marks-requires : tie.Need-check-marks-requires
+check-marks-requires c κs = (c .before .before .before .before .before .before .pre, sym (c .before .before .before .read-sheet .ensures .0) ∙ c .before .places .given .1)
+
+returns : tie.Need-returns
+returns c = let s = c .before .before .before .before .before .before in sheet-refused _ _ _ _ (s .pre .fit) (sym (c .before .before .before .read-sheet .ensures .1) ∙ ap refusalOf (c .before .cause .given .1))
+
+returns-2 : tie.Need-returns-2
+returns-2 c = search needs
+
+pub check-sheet-spec : {M : Type 1} → statement M
+check-sheet-spec =
+    tie.close
+    (tie.spec
+    read-sheet-requires
+    enum-known-cause
+    enum-known-places
+    check-marks-requires
+    returns
+    returns-2)
