@@ -1,0 +1,2 @@
+-- Laws about the filling of a call's buffers.
+pub mod MarkLaws
