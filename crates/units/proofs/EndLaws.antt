@@ -1,102 +1,121 @@
--- The refusal of target ends, pair by pair.
-use mathlib.Core.Path.{_≡_, refl, sym, ap, _∙_}
-use mathlib.Core.Bool.{Bool, true, false, _&&_}
+-- The greatest target end, pair by pair, and the refusal by it.
+use mathlib.Core.Path.{_≡_, refl, ap, _∙_}
+use mathlib.Core.Bool.{Bool}
 use mathlib.Core.List.{List, [], _∷_}
-use mathlib.Core.Option.{Option, none, some}
-use Prim.Native.Nat.{ℕ}
-use lib.Dec.{leb}
-use Rattle.base.specs.Choice.{pick}
-use Rattle.refusal.specs.declared.Refusal.{Refusal}
+use mathlib.Core.Option.{none, some}
+use Prim.Native.Nat.{ℕ, _≤_, _<_, max}
+use native.Mathlib.Omega.{arith}
+use borrow.Author.Tests.{le-leb, lt-leb}
+use Rattle.base.proofs.CaseLaws.{by-order}
 use Rattle.refusal.specs.declared.Refusal.the-variants.{PastLimit}
 use Rattle.voice.specs.Voice.{Voice}
-use Rattle.sheet.specs.Sheet.{SegmentRead, asF32, repeated, sheetOf}
+use Rattle.sheet.specs.Sheet.{asF32, sheetOf}
 use Rattle.sheet.specs.Answers.{segmentRead}
 use Rattle.sheet.specs.Places.{answerIn, sheetPlaces}
 use Rattle.sheet.specs.declared.Places.{Places}
 use Rattle.sheet.specs.declared.SheetAnswer.the-variants.{Read}
 use Rattle.sheet.proofs.WalkLaws.{ahead-none}
 use Rattle.sheet.proofs.ReadLaws.{sheet-ahead}
+use Rattle.units.specs.declared.Unit.{Unit}
 use Rattle.units.specs.declared.PairWalk.{PairWalk}
-use Rattle.units.specs.Selecting.{foldedSegment, folded}
-use Rattle.units.specs.Units.{limit, endsOf, endsFit, unitsOfPair, unitsFrom, unitsAll, unitsOf, endRefusal}
-use Rattle.units.specs.Walking.{coming}
+use Rattle.units.specs.declared.CheckedEnds.the-variants as checked
+use Rattle.units.specs.Selecting.{folded}
+use Rattle.units.specs.Units.{limit, samplesAt, midway, unitsOfPair, unitsAll, unitsOf, endRefusal, greatestEnd, checkedEnds}
+use Rattle.units.specs.Walking.{coming, unitsComing}
+use Rattle.units.proofs.StepLaws.{folded-nil, coming-first, coming-none, coming-next}
 
--- the segments are folded one by one
-pub folded-cons : (fold : Bool) (s : SegmentRead) (ss : List SegmentRead) → folded fold (s ∷ ss) ≡ foldedSegment fold s ∷ folded fold ss
-unfolding folded
-folded-cons true s ss = refl
-folded-cons false s ss = refl
+-- ---- the refusal, by the greatest of all ends
 
-pub folded-nil : (fold : Bool) → folded fold [] ≡ []
-unfolding folded
-folded-nil true = refl
-folded-nil false = refl
+passed : (us : List Unit) → greatestEnd us ≤ limit → endRefusal us ≡ none
+unfolding endRefusal greatestEnd
+passed [] h = refl
+passed (u ∷ us) h =
+    let l : u .«target_end» ≤ limit = omega arith in
+    rw (le-leb (u .«target_end») limit l) (passed us (omega arith))
 
--- the target ends of a pair and of those after it are within the limit
-unfoldable pub endsFrom : ℕ → SegmentRead → List SegmentRead → Bool
-endsFrom rate left [] = true
-endsFrom rate left (right ∷ rs) = endsFit (endsOf rate (asF32 (left .end)) (asF32 (right .end))) && endsFrom rate right rs
+refused : (us : List Unit) → limit < greatestEnd us → endRefusal us ≡ some PastLimit
+unfolding endRefusal greatestEnd
+refused [] h = absurd (omega arith)
+refused (u ∷ us) h =
+    by-order limit (u .«target_end»)
+    (λ l. rw (lt-leb (u .«target_end») limit l))
+    (λ l. rw (le-leb (u .«target_end») limit l) (refused us (omega arith)))
 
-unfoldable pub endsAll : ℕ → List SegmentRead → Bool
-endsAll rate [] = true
-endsAll rate (s ∷ rs) = endsFrom rate s rs
+module _ (us : List Unit) where
+  answer-fit : greatestEnd us ≤ limit → checked.Fit (greatestEnd us) ≡ checkedEnds us
+  unfolding checkedEnds
+  answer-fit h = let e = passed us h in rw e
 
-abbrev refusalBy : Bool → Option Refusal
-refusalBy t = pick t none (some PastLimit)
+  answer-past : limit < greatestEnd us → checked.PastLimit ≡ checkedEnds us
+  unfolding checkedEnds
+  answer-past h = let e = refused us h in rw e
 
-both : (a b : Bool) (x : Option Refusal) (t : Bool) → x ≡ refusalBy t → pick a (pick b x (some PastLimit)) (some PastLimit) ≡ refusalBy ((a && b) && t)
-both true true x t e = e
-both true false x t e = refl
-both false b x t e = refl
+  -- what an answer says
+  pub checked-past : checkedEnds us ≡ checked.PastLimit → endRefusal us ≡ some PastLimit
+  checked-past e =
+      by-order limit (greatestEnd us) (refused us)
+      (λ l. let a = answer-fit l in absurd (let z : _≡_ {A = ℕ} 0 1 = cc in omega arith))
 
-module _ (v : Voice) (fold : Bool) (ss : List SegmentRead) where
-  from-refusal : (left : SegmentRead) (rs : List SegmentRead) → endRefusal (unitsFrom v ss (foldedSegment fold left) (folded fold rs)) ≡ refusalBy (endsFrom (v .header .rate) left rs)
-  unfolding unitsFrom endRefusal unitsOfPair endsFrom
-  from-refusal left [] = rw (folded-nil fold)
-  from-refusal left (right ∷ rs) =
-      let e = endsOf (v .header .rate) (asF32 (left .end)) (asF32 (right .end)) in
-      ap (λ (xs : List SegmentRead). endRefusal (unitsFrom v ss (foldedSegment fold left) xs)) (folded-cons fold right rs)
-      ∙ both (leb (e .first) limit) (leb (e .second) limit) _ (endsFrom (v .header .rate) right rs) (from-refusal right rs)
-
-all-refusal : (v : Voice) (fold : Bool) (ss rs : List SegmentRead) → endRefusal (unitsAll v ss (folded fold rs)) ≡ refusalBy (endsAll (v .header .rate) rs)
-unfolding unitsAll endRefusal endsAll
-all-refusal v fold ss [] = rw (folded-nil fold)
-all-refusal v fold ss (s ∷ rs) = rw (folded-cons fold s rs) (from-refusal v fold ss s rs)
-
--- what is said of all ends is said of every voice's units with that rate
-pub ends-refusal : (rate : ℕ) (ss : List SegmentRead) (t : Bool) → endsAll rate ss ≡ t → (v : Voice) (fold : Bool) → v .header .rate ≡ rate → endRefusal (unitsOf v (folded fold ss)) ≡ refusalBy t
-ends-refusal rate ss t e v fold r = all-refusal v fold (folded fold ss) ss ∙ ap (λ (n : ℕ). refusalBy (endsAll n ss)) r ∙ ap refusalBy e
+  pub checked-fit : (greatest : ℕ) → checkedEnds us ≡ checked.Fit greatest → (endRefusal us ≡ none) × (greatestEnd us ≡ greatest)
+  checked-fit greatest e =
+      by-order limit (greatestEnd us)
+      (λ l. let a = answer-past l in absurd (let z : _≡_ {A = ℕ} 0 1 = cc in omega arith))
+      (λ l. let a = answer-fit l in (passed us l, cc))
 
 -- ---- one turn of the loop
 
-module _ (sheet : List ℕ) (rate count : ℕ) where
-  -- the ends that are still to come decide
-  abbrev pub Decides : PairWalk → Type 0
-  Decides w = endsAll rate (sheetOf sheet .segments) ≡ endsFrom rate (segmentRead sheet (w .left)) (coming sheet count w)
+module _ (sheet : List ℕ) (rate : ℕ) where
+  abbrev pub AllEnds : (List Unit → Type 0) → Type 0
+  AllEnds P = (v : Voice) (fold : Bool) → v .header .rate ≡ rate → P (unitsOf v (folded fold (sheetOf sheet .segments)))
 
-  pub decides-first : (w : PairWalk) → sheetOf sheet .segments ≡ segmentRead sheet (w .left) ∷ coming sheet count w → Decides w
-  unfolding endsAll
-  decides-first w e = ap (endsAll rate) e
+  -- where the greatest is known, so is the answer
+  module _ (greatest : ℕ) (a : AllEnds (λ us. greatest ≡ greatestEnd us)) where
+    pub ends-past : limit < greatest → AllEnds (λ us. checked.PastLimit ≡ checkedEnds us)
+    ends-past h v fold r = let e = a v fold r in answer-past _ (omega arith)
 
-  module _ (w x : PairWalk) (d : Decides w) (e : coming sheet count w ≡ segmentRead sheet (x .left) ∷ coming sheet count x) (t : Bool)
-      (f : t ≡ endsFit (endsOf rate (asF32 (w .left .end)) (asF32 (x .left .end)))) where
-    by-pair : endsAll rate (sheetOf sheet .segments) ≡ (t && endsFrom rate (segmentRead sheet (x .left)) (coming sheet count x))
-    unfolding endsFrom
-    by-pair =
-        d ∙ ap (endsFrom rate (segmentRead sheet (w .left))) e
-        ∙ ap (λ (u : Bool). u && endsFrom rate (segmentRead sheet (x .left)) (coming sheet count x)) (sym f)
+    pub ends-fit : greatest ≤ limit → AllEnds (λ us. checked.Fit greatest ≡ checkedEnds us)
+    ends-fit h v fold r = let e = a v fold r in ap checked.Fit e ∙ answer-fit _ (omega arith)
 
-    pub decides-next : t ≡ true → Decides x
-    decides-next h = by-pair ∙ ap (λ (u : Bool). u && endsFrom rate (segmentRead sheet (x .left)) (coming sheet count x)) h
+  -- no segment, no unit
+  pub greatest-none : (p : Places) → answerIn (sheetPlaces sheet) ≡ Read p → p .segments .count ≡ 0 → AllEnds (λ us. 0 ≡ greatestEnd us)
+  unfolding unitsAll greatestEnd
+  greatest-none p e z v fold r =
+      let none : folded fold (sheetOf sheet .segments) ≡ [] = ap (folded fold) (ahead-none _ sheet _ _ _ z (sheet-ahead sheet p e .segments)) ∙ folded-nil fold in
+      rw none
 
-    pub decides-past : t ≡ false → endsAll rate (sheetOf sheet .segments) ≡ false
-    decides-past h = by-pair ∙ ap (λ (u : Bool). u && endsFrom rate (segmentRead sheet (x .left)) (coming sheet count x)) h
+  module _ (count : ℕ) where
+    -- the greatest so far, with those that are still to come, is the greatest of all
+    abbrev pub Greatest : PairWalk → ℕ → Type 0
+    Greatest w greatest =
+        (v : Voice) (fold : Bool) → v .header .rate ≡ rate
+        → max greatest (greatestEnd (unitsComing v fold sheet count w)) ≡ greatestEnd (unitsOf v (folded fold (sheetOf sheet .segments)))
 
-  pub decides-last : (w : PairWalk) → w .remaining ≡ 0 → Decides w → endsAll rate (sheetOf sheet .segments) ≡ true
-  unfolding endsFrom repeated
-  decides-last w z d = d ∙ ap (λ (n : ℕ). endsFrom rate (segmentRead sheet (w .left)) (coming sheet count (record { left = w .left; next = w .next; remaining = n }))) z
+    pub greatest-first : (w : PairWalk) → sheetOf sheet .segments ≡ segmentRead sheet (w .left) ∷ coming sheet count w → Greatest w 0
+    greatest-first w e v fold r = let a = ap greatestEnd (coming-first v fold sheet count w e) in omega arith
 
--- no segment, no end
-pub decides-none : (sheet : List ℕ) (p : Places) → answerIn (sheetPlaces sheet) ≡ Read p → (rate : ℕ) → p .segments .count ≡ 0 → endsAll rate (sheetOf sheet .segments) ≡ true
-unfolding endsAll
-decides-none sheet p e rate z = ap (endsAll rate) (ahead-none _ sheet _ _ _ z (sheet-ahead sheet p e .segments))
+    pub greatest-last : (w : PairWalk) (greatest : ℕ) → w .remaining ≡ 0 → Greatest w greatest → AllEnds (λ us. greatest ≡ greatestEnd us)
+    unfolding greatestEnd
+    greatest-last w greatest z g v fold r =
+        let a : greatestEnd (unitsComing v fold sheet count w) ≡ 0 = ap greatestEnd (coming-none v fold sheet count w z) in
+        let b = g v fold r in
+        omega arith
+
+    module _ (w x : PairWalk) (greatest : ℕ) (g : Greatest w greatest) (e : coming sheet count w ≡ segmentRead sheet (x .left) ∷ coming sheet count x) where
+      abbrev first : ℕ
+      first = samplesAt rate (asF32 (w .left .end))
+
+      abbrev second : ℕ
+      second = samplesAt rate (midway (asF32 (w .left .end)) (asF32 (x .left .end)))
+
+      pair-greatest : (v : Voice) (fold : Bool) → v .header .rate ≡ rate
+          → greatestEnd (unitsComing v fold sheet count w) ≡ max first (max second (greatestEnd (unitsComing v fold sheet count x)))
+      unfolding greatestEnd unitsOfPair
+      pair-greatest v fold r =
+          ap greatestEnd (coming-next v fold sheet count w x e)
+          ∙ ap (λ (k : ℕ). max (samplesAt k (asF32 (w .left .end))) (max (samplesAt k (midway (asF32 (w .left .end)) (asF32 (x .left .end)))) (greatestEnd (unitsComing v fold sheet count x)))) r
+
+      pub greatest-next : (next : ℕ) → next ≡ max greatest (max first second) → Greatest x next
+      greatest-next next n v fold r =
+          let a = g v fold r in
+          let b = pair-greatest v fold r in
+          omega arith

@@ -3,5 +3,5 @@ pub mod UnitLaws
 pub mod NameLaws
 pub mod SelectLaws
 pub mod WalkLaws
-pub mod EndLaws
 pub mod StepLaws
+pub mod EndLaws

@@ -6,10 +6,12 @@ use mathlib.Core.Option.{Option, none, some}
 use Prim.Native.Nat.{ℕ, zero, suc, _+_, _≤_}
 use native.Mathlib.Omega.{arith}
 use lib.Dec.{eqb}
-use lib.ListN.{length}
+use lib.ListN.{length, getD}
 use Rattle.base.specs.Choice.{pick}
 use Rattle.base.specs.Text.{ascii}
+use Rattle.base.specs.Bytes.{Bytes}
 use Rattle.base.proofs.ListLaws.{every-at, length-part}
+use Rattle.base.proofs.BoundLaws.{Each, nil, cons, below-part}
 use Rattle.container.specs.Sections.{bytesAt}
 use Rattle.text.specs.Names.{same, among}
 use Rattle.text.proofs.NameLaws.{same-eq}
@@ -17,8 +19,9 @@ use Rattle.phoneset.specs.declared.Vc.{Vc}
 use Rattle.phoneset.specs.Phones.{vowels, vc, isVowel, isPlus, isMinus}
 use Rattle.voice.specs.declared.DiphoneVoice.{DiphoneVoice}
 use Rattle.voice.specs.declared.VoiceHeader.{VoiceHeader}
-use Rattle.voice.specs.Voice.{Entry, Placed, Voice, voiceOf, entriesFrom, lookup, sort, sorted}
+use Rattle.voice.specs.Voice.{Entry, Placed, Voice, voiceAt, voiceOf, placesOf, entryAt, entriesFrom, lookup, sort, sorted}
 use Rattle.voice.specs.Opening.{IsOpen, endPeriod, distinct}
+use Rattle.voice.specs.Extends.{Stands, here, there}
 use Rattle.voice.proofs.OpeningLaws.{passed, opens}
 use Rattle.voice.proofs.TableLaws.{header-is}
 use Rattle.voice.proofs.EntryLaws.{lookup-finds, stands-within}
@@ -27,6 +30,7 @@ use Rattle.index.specs.declared.FoundEntry.{FoundEntry}
 use Rattle.index.specs.declared.FoundEntry.the-variants.{Found, Missing}
 use Rattle.index.specs.Index.{Filled, periodsOf, foundOf, firstOf}
 use Rattle.index.proofs.FilledLaws.{empty-count, first-within}
+use Rattle.index.proofs.SortLaws.{Stored, each-stored, each-sort}
 use Rattle.opening.proofs.IndexLaws.{indexSpan, index-are, open-whole, entries-are}
 use Rattle.sheet.specs.declared.Segment.{Segment}
 use Rattle.sheet.specs.Sheet.{SegmentRead}
@@ -155,27 +159,81 @@ module _ (v : Voice) where
     pub tried-missing : inCluster ss left ≡ true → foundOf (named (pairName true (left .name) (right .name))) ≡ Missing → entryOf v ss left right ≡ plainEntry v (left .name) (right .name)
     tried-missing e f = tried true e ∙ missing-entry (named (clusterName (left .name) (right .name))) (plainEntry v (left .name) (right .name)) f
 
--- ---- an entry that is selected ends within the frames
+-- ---- an entry that is selected is one of the voice's
 
+module _ (v : Voice) (P : Entry → Type 0) (found : (n : List ℕ) (e : Entry) → lookup n (v .entries) ≡ some e → P e) (first : P (firstOf (sorted v))) where
+  either : (n : List ℕ) (x : Entry) → P x → P (orElse (lookup n (v .entries)) x)
+  either n x h = by (lookup n (v .entries)) refl
+    where
+      by : (o : Option Entry) → lookup n (v .entries) ≡ o → P (orElse o x)
+      by none e = h
+      by (some y) e = found n y e
+
+  selected-is : (ss : List SegmentRead) (left right : SegmentRead) → P (entryOf v ss left right)
+  unfolding entryOf
+  selected-is ss left right = either (firstTried ss left right) _ (either (plainName (left .name) (right .name)) _ first)
+
+-- it ends within the frames
 module _ (file : List ℕ) (d : DiphoneVoice) (o : IsOpen file d) where
-  abbrev within : Entry → Type 0
-  within e = endPeriod e ≤ voiceOf file .header .frames
+  abbrev frames : ℕ
+  frames = voiceOf file .header .frames
 
-  either : (p : Option Entry) (x : Entry) → ((e : Entry) → p ≡ some e → within e) → within x → within (orElse p x)
-  either none x f h = h
-  either (some e) x f h = f e refl
+  named-within : (n : List ℕ) (e : Entry) → lookup n (voiceOf file .entries) ≡ some e → endPeriod e ≤ frames
+  named-within n e p = stands-within frames (voiceOf file .entries) (opens file (o .fit) .entriesEnd) e (lookup-finds n (voiceOf file .entries) e p .stands)
 
-  named-within : (n : List ℕ) (e : Entry) → lookup n (voiceOf file .entries) ≡ some e → within e
-  named-within n e p = stands-within (voiceOf file .header .frames) (voiceOf file .entries) (opens file (o .fit) .entriesEnd) e (lookup-finds n (voiceOf file .entries) e p .stands)
+  first-entry-within : endPeriod (firstOf (sorted (voiceOf file))) ≤ frames
+  unfolding sorted
+  first-entry-within = first-within frames (voiceOf file .entries) (opens file (o .fit) .entriesEnd)
 
   pub selected-within : (ss : List SegmentRead) (left right : SegmentRead) → endPeriod (entryOf (voiceOf file) ss left right) ≤ d .header .frames
-  unfolding entryOf sorted
   selected-within ss left right =
-      let plain = plainName (left .name) (right .name) in
-      let first = first-within (voiceOf file .header .frames) (voiceOf file .entries) (opens file (o .fit) .entriesEnd) in
       subst (λ (h : VoiceHeader). endPeriod (entryOf (voiceOf file) ss left right) ≤ h .frames) (header-is file d (o .places))
-      (either (named (voiceOf file) (firstTried ss left right)) _ (named-within (firstTried ss left right))
-      (either (named (voiceOf file) plain) _ (named-within plain) first))
+      (selected-is (voiceOf file) (λ e. endPeriod e ≤ frames) named-within first-entry-within ss left right)
+
+-- 'two halves u8': each has at most 255 periods
+abbrev pub ShortHalves : EntryPeriods → Type 0
+ShortHalves e = (e .first ≤ 255) × (e .second ≤ 255)
+
+module _ (file : List ℕ) (bytes : Bytes file) where
+  abbrev short : Entry → Type 0
+  short e = ShortHalves (periodsOf e)
+
+  abbrev short-placed : Placed → Type 0
+  short-placed p = short (p .entry)
+
+  stored-short : (bs : List ℕ) → Bytes bs → (p : Placed) → Stored bs p → short-placed p
+  unfolding entryAt
+  stored-short bs b p s =
+      let n = getD bs (p .at) 0 in
+      let f = b (p .at + 3 + n) in
+      let g = b (p .at + 4 + n) in
+      subst short (sym (s .named)) (omega arith, omega arith)
+
+  each-short : (bs : List ℕ) → Bytes bs → (ps : List Placed) → Each (Stored bs) ps → Each short-placed ps
+  each-short bs b [] nil = nil
+  each-short bs b (p ∷ ps) (cons h k) = cons (stored-short bs b p h) (each-short bs b ps k)
+
+  entries-short : Each short-placed (voiceOf file .entries)
+  unfolding voiceOf voiceAt
+  entries-short =
+      let d = placesOf file in
+      let bs = bytesAt file (d .entries) in
+      each-short bs (below-part 256 (omega arith) file (d .entries .at) (d .entries .len) bytes) _ (each-stored bs (d .count) 0)
+
+  stands-short : (ps : List Placed) → Each short-placed ps → (e : Entry) → Stands e ps → short e
+  stands-short (p ∷ ps) (cons h k) e (here q) = subst short (sym q) h
+  stands-short (p ∷ ps) (cons h k) e (there m) = stands-short ps k e m
+
+  first-short : short (firstOf (sorted (voiceOf file)))
+  unfolding sorted
+  first-short = go (sort (voiceOf file .entries)) (each-sort short-placed (voiceOf file .entries) entries-short)
+    where
+      go : (ps : List Placed) → Each short-placed ps → short (firstOf ps)
+      go [] k = (omega arith, omega arith)
+      go (p ∷ ps) (cons h k) = h
+
+  pub selected-short : (ss : List SegmentRead) (left right : SegmentRead) → ShortHalves (periodsOf (entryOf (voiceOf file) ss left right))
+  selected-short = selected-is (voiceOf file) short (λ n e p. stands-short _ entries-short e (lookup-finds n (voiceOf file .entries) e p .stands)) first-short
 
 -- ---- the answers of a selection, by the bytes of the names
 

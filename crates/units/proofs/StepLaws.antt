@@ -9,6 +9,7 @@ use native.Mathlib.Omega.{arith}
 use lib.Ieee.{Float}
 use lib.ListN.{length}
 use Rattle.base.specs.Choice.{pick}
+use Rattle.base.specs.Bytes.{Bytes}
 use Rattle.base.proofs.CaseLaws.{by-order}
 use Rattle.voice.specs.declared.DiphoneVoice.{DiphoneVoice}
 use Rattle.voice.specs.declared.VoiceHeader.{VoiceHeader}
@@ -29,8 +30,18 @@ use Rattle.units.specs.Selecting.{foldedSegment, folded, entryOf}
 use Rattle.units.specs.Units.{endsOf, pairOf, listed, Inside, unitsOfPair, unitsFrom, unitsAll, unitsOf}
 use Rattle.units.specs.Walking.{listIn, segmentsAt, coming, Walking, unitsComing, StepsPair, withSecond, unitsLeft, manyLeft, UnitWalking, StartsUnits, StepsUnit}
 use Rattle.units.proofs.UnitLaws.{Within, nil, pair-within}
-use Rattle.units.proofs.SelectLaws.{selected-within}
-use Rattle.units.proofs.EndLaws.{folded-cons, folded-nil}
+use Rattle.units.proofs.SelectLaws.{selected-within, ShortHalves, selected-short}
+
+-- the segments are folded one by one
+folded-cons : (fold : Bool) (s : SegmentRead) (ss : List SegmentRead) → folded fold (s ∷ ss) ≡ foldedSegment fold s ∷ folded fold ss
+unfolding folded
+folded-cons true s ss = refl
+folded-cons false s ss = refl
+
+pub folded-nil : (fold : Bool) → folded fold [] ≡ []
+unfolding folded
+folded-nil true = refl
+folded-nil false = refl
 
 -- an open voice has few frames
 pub few-frames : (file : List ℕ) (d : DiphoneVoice) → IsOpen file d → length file < 2 ^ 63 → d .header .frames < 2 ^ 63
@@ -82,10 +93,13 @@ module _ (file : List ℕ) (d : DiphoneVoice) (o : IsOpen file d) (ss : List Seg
   pub units-inside : Within (d .header .frames) (unitsOf (voiceOf file) ss)
   units-inside = all-inside ss
 
-pair-inside : (n : ℕ) (e : EntryPeriods) (l r : ℕ) → e .start + e .first + e .second ≤ n → let p = pairOf e (record { first = l; second = r }) in Inside n (p .first) × Inside n (p .second)
-pair-inside n e l r h = (record { rising = omega arith; within = omega arith }, record { rising = omega arith; within = omega arith })
+pair-inside : (n : ℕ) (e : EntryPeriods) (l r : ℕ) → e .start + e .first + e .second ≤ n → ShortHalves e → let p = pairOf e (record { first = l; second = r }) in Inside n (p .first) × Inside n (p .second)
+pair-inside n e l r h s =
+    let a = s .0 in
+    let b = s .1 in
+    (record { rising = omega arith; within = omega arith; short = omega arith }, record { rising = omega arith; within = omega arith; short = omega arith })
 
-module _ (file : List ℕ) (d : DiphoneVoice) (o : IsOpen file d) (fold : Bool) (sheet : List ℕ) (count : ℕ) (w x : PairWalk)
+module _ (file : List ℕ) (bytes : Bytes file) (d : DiphoneVoice) (o : IsOpen file d) (fold : Bool) (sheet : List ℕ) (count : ℕ) (w x : PairWalk)
     (n : (Walking sheet count x × (x .remaining + 1 ≡ w .remaining)) × (coming sheet count w ≡ segmentRead sheet (x .left) ∷ coming sheet count x))
     (e : EntryPeriods) (s : (e ≡ periodsOf (entry (voiceOf file) fold sheet count w x (n .1))) × (e .start + e .first + e .second ≤ d .header .frames)) (u : UnitPair)
     (p : u ≡ pairOf e (endsOf (d .header .rate) (asF32 (w .left .end)) (asF32 (x .left .end)))) where
@@ -93,7 +107,8 @@ module _ (file : List ℕ) (d : DiphoneVoice) (o : IsOpen file d) (fold : Bool) 
   steps-pair =
       let l = asF32 (w .left .end) in
       let r = asF32 (x .left .end) in
-      let i = pair-inside (d .header .frames) e (endsOf (d .header .rate) l r .first) (endsOf (d .header .rate) l r .second) (s .1) in
+      let h = selected-short file bytes (folded fold (sheetOf sheet .segments)) (foldedSegment fold (segmentRead sheet (w .left))) (foldedSegment fold (segmentRead sheet (x .left))) in
+      let i = pair-inside (d .header .frames) e (endsOf (d .header .rate) l r .first) (endsOf (d .header .rate) l r .second) (s .1) (subst ShortHalves (sym (s .0)) h) in
       let rate : voiceOf file .header .rate ≡ d .header .rate = ap (λ (h : VoiceHeader). h .rate) (header-is file d (o .places)) in
       let is : unitsOfPair (voiceOf file .header .rate) (entry (voiceOf file) fold sheet count w x (n .1)) l r ≡ listed u =
       ap (λ (k : ℕ). unitsOfPair k (entry (voiceOf file) fold sheet count w x (n .1)) l r) rate
@@ -140,7 +155,7 @@ pub starts-units : (sheet : List ℕ) (count : ℕ) (w : PairWalk)
 starts-units sheet count w n =
     record {
       units = λ v fold. coming-first v fold sheet count w (n .1);
-      walking = λ frames. record { pairs = n .0 .0; second = record { rising = omega arith; within = omega arith } };
+      walking = λ frames. record { pairs = n .0 .0; second = record { rising = omega arith; within = omega arith; short = omega arith } };
       many = omega (arith, n .0 .1);
     }
 

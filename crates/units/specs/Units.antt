@@ -1,8 +1,8 @@
 -- Document 01, 'Selecting and marking': halves and target ends.
 use mathlib.Core.List.{List, [], _∷_, _++_}
 use mathlib.Core.Option.{Option, none, some}
-use mathlib.Core.Bool.{Bool, false, _&&_}
-use Prim.Native.Nat.{ℕ, _+_, _≤_}
+use mathlib.Core.Bool.{false}
+use Prim.Native.Nat.{ℕ, _+_, _≤_, max}
 use lib.Dec.{leb}
 use lib.IntN.{pos}
 use lib.Ieee.{Float, fin, binary32, add, mul, div, ofInt, toUnsigned}
@@ -16,6 +16,8 @@ use Rattle.sheet.specs.Sheet.{SegmentRead, asF32}
 use Rattle.units.specs.declared.Unit.{Unit}
 use Rattle.units.specs.declared.UnitPair.{UnitPair}
 use Rattle.units.specs.declared.TargetEnds.{TargetEnds}
+use Rattle.units.specs.declared.CheckedEnds.{CheckedEnds}
+use Rattle.units.specs.declared.CheckedEnds.the-variants as checked
 use Rattle.units.specs.Selecting.{entryOf}
 
 -- a time in seconds × rate, in f32, 'truncated, 0 below zero'
@@ -45,10 +47,11 @@ listed p = p .first ∷ p .second ∷ []
 unfoldable pub unitsOfPair : ℕ → Entry → Float → Float → List Unit
 unitsOfPair rate e left right = listed (pairOf (periodsOf e) (endsOf rate left right))
 
--- a unit's periods are among so many
+-- a unit's periods are among so many, and at most 255: 'two halves u8'
 pub record Inside (frames : ℕ) (u : Unit) : Type 0 where
   pub rising : u .«first_period» ≤ u .«last_period»
   pub within : u .«last_period» ≤ frames
+  pub short : u .«last_period» ≤ u .«first_period» + 255
 
 -- the pair of `left` and the first of the segments after it, and so on; ss has all segments, to which followers refer
 unfoldable pub unitsFrom : Voice → List SegmentRead → SegmentRead → List SegmentRead → List Unit
@@ -68,11 +71,24 @@ unitsOf v ss = unitsAll v ss ss
 abbrev pub limit : ℕ
 limit = 16777215
 
--- both target ends of a pair are within it
-abbrev pub endsFit : TargetEnds → Bool
-endsFit e = leb (e .first) limit && leb (e .second) limit
-
 -- 11 at the first target end above the limit, in unit order
 unfoldable pub endRefusal : List Unit → Option Refusal
 endRefusal [] = none
 endRefusal (u ∷ us) = pick (leb (u .«target_end») limit) (endRefusal us) (some PastLimit)
+
+-- the greatest target end, 0 where there is no unit
+unfoldable pub greatestEnd : List Unit → ℕ
+greatestEnd [] = 0
+greatestEnd (u ∷ us) = max (u .«target_end») (greatestEnd us)
+
+abbrev pub answeredEnds : Option Refusal → ℕ → CheckedEnds
+answeredEnds none greatest = checked.Fit greatest
+answeredEnds (some r) greatest = checked.PastLimit
+
+-- the refusal, or the greatest target end
+unfoldable pub checkedEnds : List Unit → CheckedEnds
+checkedEnds us = answeredEnds (endRefusal us) (greatestEnd us)
+
+abbrev pub greatestIn : CheckedEnds → ℕ
+greatestIn (checked.Fit greatest) = greatest
+greatestIn checked.PastLimit = 0

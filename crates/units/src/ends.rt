@@ -1,6 +1,6 @@
 // The two units of a pair, with their target ends.
 ghost use mathlib.Core.Path.{_≡_};
-ghost use Prim.Native.Nat.{_+_, _^_, _<_};
+ghost use Prim.Native.Nat.{_+_, _^_, _<_, max};
 ghost use Rattle.sheet.specs.Sheet as sheets;
 ghost use Rattle.units.specs.Units as units;
 use super::TargetEnds;
@@ -55,13 +55,25 @@ pub fn unit_pair(rate: u32, e: EntryPeriods, left: Value, right: Value) -> UnitP
     }
 }
 
-// Whether both target ends of a pair are within the limit.
-pub fn pair_fits(rate: u32, left: Value, right: Value) -> bool
-    ensures { λ r. ⌜ r ≡ units.endsFit (units.endsOf rate (sheets.asF32 left) (sheets.asF32 right)) ⌝ }
+// The greater of two numbers.
+fn greater(a: usize, b: usize) -> usize
+    ensures { λ r. ⌜ r ≡ max a b ⌝ }
+{
+    if a < b {
+        return b;
+    }
+    a
+}
+
+// The greatest of a number and the target ends of a pair.
+pub fn greatest_with(greatest: usize, rate: u32, left: Value, right: Value) -> usize
+    ensures { λ r.
+        ⌜
+        r ≡ max greatest
+        (max (units.samplesAt rate (sheets.asF32 left))
+        (units.samplesAt rate (units.midway (sheets.asF32 left) (sheets.asF32 right))))
+        ⌝ }
 {
     let ends = target_ends(rate, left, right);
-    if 16777215 < ends.first {
-        return false;
-    }
-    ends.second <= 16777215
+    greater(greatest, greater(ends.first, ends.second))
 }

@@ -29,6 +29,12 @@ pub struct TargetEnds {
     pub second: usize,
 }
 
+// The greatest target end of some units, 0 where there is none; or one is above the limit.
+pub enum CheckedEnds {
+    PastLimit,
+    Fit(usize),
+}
+
 // A walk over the pairs of a sheet: the left segment of the next pair, the place of the right one,
 // and how many segments are still to come.
 pub struct PairWalk {

@@ -3,17 +3,15 @@
 ghost use mathlib.Core.Path.{_≡_};
 ghost use mathlib.Core.Bool.{Bool, true};
 ghost use mathlib.Core.List.{_∷_};
-ghost use mathlib.Core.Option.{none, some};
 ghost use Prim.Native.Nat.{_+_, _≤_, _<_};
-ghost use Rattle.base.specs.Choice.{pick};
-ghost use Rattle.refusal.specs.declared.Refusal.the-variants.{PastLimit};
 ghost use Rattle.voice.specs.Voice.{Voice};
 ghost use Rattle.sheet.specs.Sheet.{sheetOf};
 ghost use Rattle.sheet.specs.Answers.{segmentRead};
 ghost use Rattle.sheet.specs.Places.{answerIn, sheetPlaces, isRead};
 ghost use Rattle.units.specs.Selecting.{folded};
-ghost use Rattle.units.specs.Units.{unitsOf, endRefusal};
+ghost use Rattle.units.specs.Units.{unitsOf, limit, greatestEnd, checkedEnds, greatestIn};
 ghost use Rattle.units.specs.Walking.{Reached, Walking, listIn, segmentsAt, coming};
+use super::CheckedEnds;
 use super::PairWalk;
 use sheet::Places;
 use sheet::SheetAnswer;
@@ -64,31 +62,49 @@ pub fn next_pair(sheet: &[u8], count: usize, walk: PairWalk) -> PairWalk
     walk_from(sheet, count, walk.remaining, walk.next)
 }
 
-// Whether each pair's target ends are within the limit, at a voice's rate. No entry is looked up.
-pub fn ends_fit(sheet: &[u8], places: Places, rate: u32) -> bool
+// The greatest target end of a sheet's units at a voice's rate, 0 where there is none. No entry is
+// looked up.
+fn greatest_end(sheet: &[u8], places: Places, rate: u32) -> usize
     requires { ⌜ answerIn (sheetPlaces (now sheet)) ≡ SheetAnswer.Read places ⌝ }
     ensures { λ r.
         ⌜
         ((v : Voice) (fold : Bool) →
         v .header .rate ≡ rate →
-        endRefusal (unitsOf v (folded fold (sheetOf (now (sheet .entry)) .segments))) ≡ pick r none (some PastLimit))
+        r ≡ greatestEnd (unitsOf v (folded fold (sheetOf (now (sheet .entry)) .segments))))
         ⌝ }
 {
     let segments = places.segments;
     let count = segments.count;
     if count == 0 {
-        return true;
+        return 0;
     }
     let mut walk = first_pair(sheet, places);
+    let mut greatest = 0;
     while 0 < walk.remaining {
         let left = walk.left;
         let from = left.end;
         walk = next_pair(sheet, count, walk);
         let right = walk.left;
         let to = right.end;
-        if !super::ends::pair_fits(rate, from, to) {
-            return false;
-        }
+        greatest = super::ends::greatest_with(greatest, rate, from, to);
     }
-    true
+    greatest
+}
+
+// Works out the target ends of a sheet's units at a voice's rate, which no setting changes.
+pub fn check_ends(sheet: &[u8], places: Places, rate: u32) -> CheckedEnds
+    requires { ⌜ answerIn (sheetPlaces (now sheet)) ≡ SheetAnswer.Read places ⌝ }
+    ensures { λ r.
+        ⌜
+        ((v : Voice) (fold : Bool) →
+        v .header .rate ≡ rate →
+        r ≡ checkedEnds (unitsOf v (folded fold (sheetOf (now (sheet .entry)) .segments)))) ×
+        (greatestIn r ≤ limit)
+        ⌝ }
+{
+    let greatest = greatest_end(sheet, places, rate);
+    if 16777215 < greatest {
+        return CheckedEnds::PastLimit;
+    }
+    CheckedEnds::Fit(greatest)
 }

@@ -26,8 +26,9 @@ unit-pair-requires c κs =
 
 returns : tie.Need-returns
 returns c =
-    let a = c .before .before .before .before .before .before .before .before .before .before .before in
-    steps-pair (a .args .file .now) (a .args .by .voice) (a .pre .0 .opened) (a .args .by .fold) (a .args .sheet .now) (a .args .by .places .segments .count) (a .args .walk) _ (c .before .before .before .before .before .before .next-pair .ensures) _ (c .before .select .ensures) _ (c .unit-pair .ensures)
+    let k = c .before .before .before .before .before .before .before .before .before .before in
+    let a = k .before in
+    steps-pair (a .args .file .now) (λ i. k .shared-slice-known .given i .fits) (a .args .by .voice) (a .pre .0 .opened) (a .args .by .fold) (a .args .sheet .now) (a .args .by .places .segments .count) (a .args .walk) _ (c .before .before .before .before .before .before .next-pair .ensures) _ (c .before .select .ensures) _ (c .unit-pair .ensures)
 
 pub next-units-spec : {M : Type 1} → statement M
 next-units-spec =
