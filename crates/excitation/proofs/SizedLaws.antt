@@ -62,7 +62,7 @@ taken-all v P so us ms = taken-each v (λ m. m ≡ m) P (λ m mark p q. so (m - 
 
 -- ---- lengths
 
-length-centred : (n : ℕ) (s : List ℕ) → length (centred n s) ≡ n
+pub length-centred : (n : ℕ) (s : List ℕ) → length (centred n s) ≡ n
 unfolding centred
 length-centred n s = by (ltb (length s) n) refl
   where
@@ -71,7 +71,7 @@ length-centred n s = by (ltb (length s) n) refl
     by true e = let l : length s < n = ltb-true (length s) n e in simp (length-append, length-replicate) (omega arith)
     by false e = let l : n ≤ length s = ltb-false (length s) n e in simp (length-take, length-drop) (omega arith)
 
-length-row : (v : Voice) (p : ℕ) → length (rowOf v p) ≡ v .header .order
+pub length-row : (v : Voice) (p : ℕ) → length (rowOf v p) ≡ v .header .order
 unfolding rowOf
 length-row v p = length-upto (λ k. u16At (v .lpc) (p * v .header .order + k)) (v .header .order)
 

@@ -52,7 +52,7 @@ fn fill_at(buf: &mut [u8], at: usize, n: usize)
 }
 
 // Writes bytes at a place.
-fn copy_at(from: &[u8], buf: &mut [u8], at: usize)
+pub fn copy_at(from: &[u8], buf: &mut [u8], at: usize)
     requires { ⌜ at + length (now from) ≤ length (now buf) ⌝ }
     ensures { λ _. ⌜ now (buf .exit) ≡ sets (now (buf .entry)) at (now (from .entry)) ⌝ }
 {

@@ -1,0 +1,3 @@
+-- Laws about taking's definitions.
+pub mod PeriodLaws
+pub mod UnitLaws

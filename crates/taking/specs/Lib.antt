@@ -1,0 +1,2 @@
+-- The root of taking's definitions.
+pub mod Taking
