@@ -28,6 +28,8 @@ mod openings;
 mod probe;
 #[cfg(feature = "probe_call")]
 mod probe_call;
+#[cfg(feature = "probe_take")]
+mod probe_take;
 #[cfg(feature = "probe_voice")]
 mod probe_voice;
 mod reference;
@@ -42,6 +44,8 @@ mod statements;
 #[cfg(feature = "probe_state")]
 mod states;
 mod voicefile;
+#[cfg(feature = "probe_take")]
+mod windows;
 
 use std::process::ExitCode;
 
@@ -52,7 +56,8 @@ const USAGE: &str = "usage:
   oracle codecs [--seed N] [--count N]
   oracle filters [--seed N] [--count N]
   oracle openings [--seed N] [--from N] [--count N]
-  oracle marks [--seed N] [--from N] [--count N]";
+  oracle marks [--seed N] [--from N] [--count N]
+  oracle windows [--seed N] [--from N] [--count N]";
 
 fn main() -> ExitCode {
     let words: Vec<String> = std::env::args().skip(1).collect();
@@ -82,6 +87,10 @@ fn main() -> ExitCode {
         "marks" => marking::run(&args),
         #[cfg(not(feature = "probe_call"))]
         "marks" => return usage("built without the feature probe_call"),
+        #[cfg(feature = "probe_take")]
+        "windows" => windows::run(&args),
+        #[cfg(not(feature = "probe_take"))]
+        "windows" => return usage("built without the feature probe_take"),
         other => return usage(&format!("unknown command {other}")),
     };
     match agreed {

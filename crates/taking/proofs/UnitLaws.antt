@@ -11,11 +11,11 @@ use lib.Dec.{leb, ltb}
 use lib.IntN.{pos}
 use lib.Ieee.{Float, fin}
 use lib.ListN.{length, drop, drop-of-length-le}
-use lib.Seq.{sets, drop-cons}
+use lib.Seq.{sets, length-sets, drop-cons}
 use Rattle.base.specs.Choice.{pick}
 use Rattle.base.specs.Buffers.{over, flat, upto}
 use Rattle.base.specs.Bytes.{littleEndian, bytesOf, elements, u32At}
-use Rattle.base.proofs.BufferLaws.{sets-append, flat-append, length-upto, getD-upto}
+use Rattle.base.proofs.BufferLaws.{length-over, sets-append, flat-append, length-upto, getD-upto}
 use Rattle.base.proofs.ByteLaws.{length-bytesOf}
 use Rattle.voice.specs.declared.DiphoneVoice.{DiphoneVoice}
 use Rattle.voice.specs.Voice.{Voice, voiceOf}
@@ -31,7 +31,7 @@ use Rattle.excitation.proofs.TakenLaws.{takeMark}
 use Rattle.excitation.proofs.SizedLaws.{length-centred}
 use Rattle.taking.specs.declared.Progress.{Progress}
 use Rattle.taking.specs.Taking.{decodedOf, Held, unitTaken, CanTake, Takes, CanTakePeriod, TakesPeriod}
-use Rattle.taking.proofs.PeriodLaws.{row-bytes}
+use Rattle.taking.proofs.PeriodLaws.{decoded-fits, frames-is, row-bytes}
 
 -- ---- the marks that are left
 
@@ -127,6 +127,13 @@ module _ (v : Voice) (order taken mark size p : ℕ) (t : Taking) (s r e b : Lis
       (ap (sets r (2 * (order * taken))) (flat-append (bytesOf 2) (rowOf v p) (rowsOf (t .periods))) ∙ sets-next r (2 * (order * taken)) (2 * (order * (taken + 1))) (flat (bytesOf 2) (rowOf v p)) (flat (bytesOf 2) (rowsOf (t .periods))) c)
       (sets-next e mark (mark + size) (centred size (sourceOf v p)) (excitationOf (t .periods)) g)
 
+length-decoding : (v : Voice) (p size : ℕ) (b : List ℕ) → length (decodedOf v p) ≤ length b → length (pick (ltb 0 size) (over (decodedOf v p) b) b) ≡ length b
+length-decoding v p size b h = by (ltb 0 size)
+  where
+    by : (t : Bool) → length (pick t (over (decodedOf v p) b) b) ≡ length b
+    by true = length-over (decodedOf v p) b h
+    by false = refl
+
 -- ---- the loop: what is left behind in the end is always the same
 
 pub record Going (file : List ℕ) (d : DiphoneVoice) (u : Unit) (marks : List ℕ) (pace : Float) (w : Whole) (n k l o : ℕ) (s r e b : List ℕ) (to : Progress) (place : Float) : Type 0 where
@@ -211,11 +218,17 @@ module _ (file : List ℕ) (d : DiphoneVoice) (u : Unit) (marks : List ℕ) (pac
             samples = record { opened = opened; inside = inside; excitationRoom = omega (arith, q .excitation, top, last); decodedRoom = omega arith; held = g .held };
           }
 
+      fits : {p : ℕ} → IsOpen file d → p < d .header .frames → decodeRoom v ≤ o → length (decodedOf v p) ≤ length b
+      fits {p} opened inside room =
+          let a = decoded-fits v p (rw (frames-is file d opened) inside) in
+          let c = g .decodedLong in
+          omega (arith, a, c, room)
+
       -- and once it is taken, the rest is to take
-      pub going-on : (p front : ℕ) (s₁ r₁ e₁ b₁ : List ℕ) (place₁ : Float) → IsOpen file d → p ≡ nearestPeriod v u place → place₁ ≡ placeAfterSize place pace (m - to .mark)
-          → TakesPeriod file d p (m - to .mark) to front s s₁ r r₁ e e₁ b b₁ → length s₁ ≡ length s → length r₁ ≡ length r → length e₁ ≡ length e → length b₁ ≡ length b
+      pub going-on : (p front : ℕ) (s₁ r₁ e₁ b₁ : List ℕ) (place₁ : Float) → IsOpen file d → p < d .header .frames → decodeRoom v ≤ o → p ≡ nearestPeriod v u place → place₁ ≡ placeAfterSize place pace (m - to .mark)
+          → TakesPeriod file d p (m - to .mark) to front s s₁ r r₁ e e₁ b b₁
           → Going file d u marks pace w n k l o s₁ r₁ e₁ b₁ (record { taken = to .taken + 1; mark = m; front = front }) place₁
-      going-on p front s₁ r₁ e₁ b₁ place₁ opened near placed t a c f i =
+      going-on p front s₁ r₁ e₁ b₁ place₁ opened inside room near placed t =
           let size : to .mark + (m - to .mark) ≡ m = let above = risen .0 in omega arith in
           let w₁ : whole v order (to .taken + 1) m rest s₁ r₁ e₁ b₁ ≡ w =
           whole-by v order (to .taken + 1) rest (sym size) (t .sizes) (t .rows) (t .samples .excitation) (t .samples .decoded)
@@ -226,10 +239,10 @@ module _ (file : List ℕ) (d : DiphoneVoice) (u : Unit) (marks : List ℕ) (pac
             all = ap (λ (x : Float). whole v order (to .taken + 1) m (takeUnit v u pace x m (drop (to .taken + 1) (elements 4 marks))) s₁ r₁ e₁ b₁) placed ∙ w₁;
             rising = risen .1;
             held = t .samples .held;
-            sizesLong = a ∙ g .sizesLong;
-            rowsLong = c ∙ g .rowsLong;
-            excitationLong = f ∙ g .excitationLong;
-            decodedLong = i ∙ g .decodedLong;
+            sizesLong = ap length (t .sizes) ∙ simp length-sets (g .sizesLong);
+            rowsLong = ap length (t .rows) ∙ simp length-sets (g .rowsLong);
+            excitationLong = ap length (t .samples .excitation) ∙ simp length-sets (g .excitationLong);
+            decodedLong = ap length (t .samples .decoded) ∙ length-decoding v p (m - to .mark) b (fits opened inside room) ∙ g .decodedLong;
           }
 
 -- ---- the first turn, and the last

@@ -110,7 +110,7 @@ fn write_period<'a>(
 
 // Decodes period p and puts it into its window of the excitation, where its size is above 0. Answers
 // the period that the decode buffer's front has then.
-fn take_samples(
+pub fn take_samples(
     file: &[u8],
     d: DiphoneVoice,
     p: usize,

@@ -94,8 +94,7 @@ loop-again c =
     let o = t .before .before .before .before .before .before .before .before .before .before in
     let a = o .args in
     going-on (a .file .now) (a .d) (a .unit) (a .marks .now) _ _ _ _ _ _ (l .sizes) (l .rows) (l .excitation) (l .decoded) (l .to) (l .place) (l .inv) _ (t .if1 .taken) (i .before .before .u32-at .ensures) (i .if2 .left)
-    (q .nearest-period .result) (n .take-period .result) _ _ _ _ _ (o .pre .opened) (q .nearest-period .ensures .0) (c .place-after .ensures) (n .take-period .ensures)
-    (search needs) (search needs) (search needs) (search needs)
+    (q .nearest-period .result) (n .take-period .result) _ _ _ _ _ (o .pre .opened) (q .nearest-period .ensures .1) (o .pre .decodedRoom) (q .nearest-period .ensures .0) (c .place-after .ensures) (n .take-period .ensures)
 
 same-length-5 : tie.Need-same-length-5 Inv-loop μ-loop
 same-length-5 c = c .before .before .loop .inv .sizesLong

@@ -1,0 +1,1 @@
+-- The root of probe_take's definitions: there are none.
