@@ -43,9 +43,9 @@ fn print_segments(sheet: &[u8]) {
 fn print_marks_of(sheet: &[u8], places: Places)
     requires { ⌜ answerIn (sheetPlaces (now sheet)) ≡ SheetAnswer.Read places ⌝ }
 {
-    match marks::check_marks(sheet, places, 8000) {
+    match marks::check_marks(sheet, places, 8000, 16777215) {
         CheckedMarks::Refused(cause) => print_refused(refusal::number(cause)),
-        CheckedMarks::Made(count, _) => {
+        CheckedMarks::Made(count, _, _) => {
             io::print_decimal(STDOUT_FILENO, count as u64);
             io::write_all(STDOUT_FILENO, b" marks made\n");
         }

@@ -2,3 +2,4 @@
 pub mod TakenLaws
 pub mod SizedLaws
 pub mod WindowLaws
+pub mod CountLaws

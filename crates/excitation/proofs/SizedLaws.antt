@@ -57,8 +57,13 @@ module _ (v : Voice) (Q : ℕ → Type 0) (P : Period → Type 0) (so : (m mark 
       by true = nil
       by false = from-each 0 0 us ms e
 
-taken-all : (v : Voice) (P : Period → Type 0) → ((size p : ℕ) → P (periodOf v size p)) → (us : List Unit) (ms : List ℕ) → Each P (taken v us ms)
-taken-all v P so us ms = taken-each v (λ m. m ≡ m) P (λ m mark p q. so (m - mark) p) us ms (each-all (λ m. m ≡ m) (λ m. refl) ms)
+-- whatever the marks are
+module _ (v : Voice) (P : Period → Type 0) (so : (size p : ℕ) → P (periodOf v size p)) where
+  from-all : (endBefore mark : ℕ) (us : List Unit) (ms : List ℕ) → Each P (takenFrom v endBefore mark us ms)
+  from-all endBefore mark us ms = from-each v (λ m. m ≡ m) P (λ m mark p q. so (m - mark) p) endBefore mark us ms (each-all (λ m. m ≡ m) (λ m. refl) ms)
+
+  taken-all : (us : List Unit) (ms : List ℕ) → Each P (taken v us ms)
+  taken-all us ms = taken-each v (λ m. m ≡ m) P (λ m mark p q. so (m - mark) p) us ms (each-all (λ m. m ≡ m) (λ m. refl) ms)
 
 -- ---- lengths
 
@@ -81,9 +86,15 @@ HasSize order p = (length (p .row) ≡ order) × (length (p .bytes) ≡ p .size)
 abbrev pub Sized : ℕ → List Period → Type 0
 Sized order ps = Each (HasSize order) ps
 
-pub taken-sized : (v : Voice) (us : List Unit) (ms : List ℕ) → Sized (v .header .order) (taken v us ms)
+period-sized : (v : Voice) (size p : ℕ) → HasSize (v .header .order) (periodOf v size p)
 unfolding periodOf
-taken-sized v us ms = taken-all v (HasSize (v .header .order)) (λ size p. (length-row v p, length-centred size (sourceOf v p))) us ms
+period-sized v size p = (length-row v p, length-centred size (sourceOf v p))
+
+pub from-sized : (v : Voice) (endBefore mark : ℕ) (us : List Unit) (ms : List ℕ) → Sized (v .header .order) (takenFrom v endBefore mark us ms)
+from-sized v endBefore mark us ms = from-all v (HasSize (v .header .order)) (period-sized v) endBefore mark us ms
+
+pub taken-sized : (v : Voice) (us : List Unit) (ms : List ℕ) → Sized (v .header .order) (taken v us ms)
+taken-sized v us ms = taken-all v (HasSize (v .header .order)) (period-sized v) us ms
 
 -- all rows of the sizes are there
 pub rows-length : (order : ℕ) (ps : List Period) → Sized order ps → length (rowsOf ps) ≡ length (sizesOf ps) * order

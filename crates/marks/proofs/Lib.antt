@@ -4,6 +4,7 @@ pub mod CountLaws
 pub mod LimitLaws
 pub mod FiniteLaws
 pub mod WalkLaws
+pub mod UpToLaws
 pub mod CheckLaws
 pub mod StoreLaws
 pub mod UnitLaws

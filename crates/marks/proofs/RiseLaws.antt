@@ -1,5 +1,5 @@
--- Marks do not fall.
-use mathlib.Core.Path.{_≡_, refl, sym, subst}
+-- Marks do not fall; the simple join's end where its units do.
+use mathlib.Core.Path.{_≡_, refl, sym, ap, subst, _∙_}
 use mathlib.Core.Bool.{Bool, true, false, _&&_}
 use mathlib.Core.List.{List, [], _∷_, _++_}
 use mathlib.Core.Option.{Option, none, some}
@@ -50,6 +50,23 @@ natural-rises v place [] = tt
 natural-rises v place (u ∷ us) =
     let r = periods-rise v place (u .«first_period») (periodCount u) in
     rising-append place (marksOfPeriods v place (u .«first_period») (periodCount u)) _ (r .0) (subst (λ (m : ℕ). Rising m (naturalMarks v (placeAfterUnit v place u) us)) (sym (r .1)) (natural-rises v (placeAfterUnit v place u) us))
+
+-- the last mark is the place after the last unit: unit by unit
+
+last-append : (m : ℕ) (ms ns : List ℕ) → lastOf m (ms ++ ns) ≡ lastOf (lastOf m ms) ns
+unfolding lastOf
+last-append m [] ns = refl
+last-append m (n ∷ ms) ns = last-append n ms ns
+
+pub natural-last : (v : Voice) (place : ℕ) (u : Unit) (us : List Unit) → lastOf place (naturalMarks v place (u ∷ us)) ≡ lastOf (placeAfterUnit v place u) (naturalMarks v (placeAfterUnit v place u) us)
+unfolding naturalMarks
+natural-last v place u us =
+    last-append place (marksOfPeriods v place (u .«first_period») (periodCount u)) (naturalMarks v (placeAfterUnit v place u) us)
+    ∙ ap (λ (m : ℕ). lastOf m (naturalMarks v (placeAfterUnit v place u) us)) (periods-rise v place (u .«first_period») (periodCount u) .1)
+
+pub natural-last-none : (v : Voice) (place : ℕ) → lastOf place (naturalMarks v place []) ≡ place
+unfolding naturalMarks lastOf
+natural-last-none v place = refl
 
 -- ---- the modified join, at a rate of n samples per second
 

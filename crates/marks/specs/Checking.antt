@@ -1,8 +1,10 @@
 -- What the checks of a call's marks answer, and what is asked where they are stored.
 use mathlib.Core.Path.{_≡_}
+use mathlib.Core.Bool.{Bool, true, false, _&&_}
 use mathlib.Core.List.{List, [], _∷_}
 use mathlib.Core.Option.{Option, none, some}
 use Prim.Native.Nat.{ℕ, _+_, _-_, _*_, _≤_}
+use lib.Dec.{leb}
 use lib.ListN.{length}
 use Rattle.refusal.specs.declared.Refusal.{Refusal}
 use Rattle.sheet.specs.declared.Places.{Places}
@@ -16,6 +18,7 @@ use Rattle.voice.specs.Opening.{IsOpen}
 use Rattle.units.specs.Units.{limit}
 use Rattle.marks.specs.declared.CheckedMarks.{CheckedMarks}
 use Rattle.marks.specs.declared.CheckedMarks.the-variants as checked
+use Rattle.marks.specs.declared.Tally.{Tally}
 use Rattle.marks.specs.declared.UnitMarks.{UnitMarks}
 use Rattle.marks.specs.declared.UnitMarks.the-variants as unit
 use Rattle.marks.specs.NaturalMarks.{marksOfPeriods, markRefusal}
@@ -26,17 +29,31 @@ unfoldable pub lastOf : ℕ → List ℕ → ℕ
 lastOf m [] = m
 lastOf m (n ∷ ns) = lastOf n ns
 
-abbrev pub answered : Option Refusal → ℕ → ℕ → CheckedMarks
-answered none count last = checked.Made count last
-answered (some r) count last = checked.Refused r
+-- the longest front of some marks that are not above a place
+unfoldable pub upTo : ℕ → List ℕ → List ℕ
+upTo end [] = []
+upTo end (m ∷ ms) = elim (leb m end) [ false ↦ [] | true ↦ m ∷ upTo end ms ]
 
--- the refusal, or how many marks there are and the last one, 0 where there is none
-unfoldable pub checkedMarks : Made → CheckedMarks
-checkedMarks m = answered (m .refusal) (length (m .marks)) (lastOf 0 (m .marks))
+abbrev pub answered : Option Refusal → ℕ → ℕ → ℕ → CheckedMarks
+answered none count taken last = checked.Made count taken last
+answered (some r) count taken last = checked.Refused r
+
+-- the refusal, or how many marks there are, how many up to a place are taken, and the last of these, 0 where there is none
+unfoldable pub checkedMarks : ℕ → Made → CheckedMarks
+checkedMarks end m = answered (m .refusal) (length (m .marks)) (length (upTo end (m .marks))) (lastOf 0 (upTo end (m .marks)))
 
 abbrev pub Bounded : CheckedMarks → Type 0
-Bounded (checked.Made count last) = (count ≤ mostMarks) × (last ≤ limit)
+Bounded (checked.Made count taken last) = (count ≤ mostMarks) × (taken ≤ count) × (last ≤ limit)
 Bounded (checked.Refused r) = Unit
+
+-- ---- mark by mark
+
+abbrev pub takes : Tally → ℕ → ℕ → Bool
+takes t end m = t .taking && leb m end
+
+abbrev pub tallied : Tally → ℕ → Bool → Tally
+tallied t m true = record { taking = true; count = t .count + 1; taken = t .taken + 1; last = m }
+tallied t m false = record { taking = false; count = t .count + 1; taken = t .taken; last = t .last }
 
 -- the sheet was read, its marks are not refused, and they fit n bytes, four each
 pub record CanStore (sheet : List ℕ) (p : Places) (rate n : ℕ) : Type 0 where

@@ -13,20 +13,31 @@ ghost use Rattle.sheet.specs.declared.SheetAnswer.the-variants.{Read};
 ghost use Rattle.marks.specs.PitchMarks as pitch;
 ghost use Rattle.marks.specs.Walking as walking;
 ghost use Rattle.marks.specs.Walking.{contourOf, stageOf, onWay, isAhead, Reads};
-ghost use Rattle.marks.specs.Checking.{checkedMarks, Bounded, CanStore};
+ghost use Rattle.marks.specs.Checking as checking;
+ghost use Rattle.marks.specs.Checking.{CanStore};
 use refusal::Refusal;
 use sheet::Places;
 
-// How many marks there are and the last one, 0 where there is none; or why they are refused.
+// How many marks there are, how many of them are taken, and the last one taken, 0 where there is
+// none; or why they are refused.
 pub enum CheckedMarks {
     Refused(Refusal),
-    Made(usize, usize),
+    Made(usize, usize, usize),
 }
 
 // The place after a unit and how many marks are still allowed, or why its marks are refused.
 pub enum UnitMarks {
     Refused(Refusal),
     To(usize, usize),
+}
+
+// How many marks there are, how many of them are taken, and the last one taken; the next one may be
+// taken while this is `taking`.
+struct Tally {
+    taking: bool,
+    count: usize,
+    taken: usize,
+    last: usize,
 }
 
 // Where the making of pitch marks stands. The pitch goes from `base` at the time `from` by `slope`,
@@ -296,27 +307,62 @@ fn fresh(places: Places, rate: u32) -> Walk
     }
 }
 
-// Makes the pitch marks of a sheet at a rate in samples per second, and writes none.
-pub fn check_marks(sheet: &[u8], places: Places, rate: u32) -> CheckedMarks
+// Whether a mark is taken: it is not above the end, and neither is one before it.
+fn takes(t: Tally, end: usize, m: usize) -> bool
+    ensures { λ r. ⌜ r ≡ checking.takes t end m ⌝ }
+{
+    if t.taking {
+        return m <= end;
+    }
+    false
+}
+
+// One mark more.
+fn tallied(t: Tally, end: usize, m: usize) -> Tally
+    requires { ⌜ (t .taken ≤ t .count) × (t .count < 65536) ⌝ }
+    ensures { λ r. ⌜ r ≡ checking.tallied t m (checking.takes t end m) ⌝ }
+{
+    if takes(t, end, m) {
+        return Tally {
+            taking: true,
+            count: t.count + 1,
+            taken: t.taken + 1,
+            last: m,
+        };
+    }
+    Tally {
+        taking: false,
+        count: t.count + 1,
+        taken: t.taken,
+        last: t.last,
+    }
+}
+
+// Makes the pitch marks of a sheet at a rate in samples per second, and writes none. Those up to
+// `end`, the greatest target end of the units, are taken.
+pub fn check_marks(sheet: &[u8], places: Places, rate: u32, end: usize) -> CheckedMarks
     requires { ⌜ answerIn (sheetPlaces (now sheet)) ≡ Read places ⌝ }
     ensures { λ r.
         ⌜
-        (r ≡ checkedMarks (pitch.pitchMarks rate (sheets.sheetOf (now (sheet .entry)) .targets))) ×
-        Bounded r
+        (r ≡ checking.checkedMarks end (pitch.pitchMarks rate (sheets.sheetOf (now (sheet .entry)) .targets))) ×
+        checking.Bounded r
         ⌝ }
 {
     let mut walk = fresh(places, rate);
-    let mut count = 0;
-    let mut last = 0;
+    let mut tally = Tally {
+        taking: true,
+        count: 0,
+        taken: 0,
+        last: 0,
+    };
     loop {
         let step = next(sheet, walk);
         let event = step.event;
         match event {
             Event::Refused(cause) => return CheckedMarks::Refused(cause),
-            Event::Done => return CheckedMarks::Made(count, last),
-            Event::Mark(m) => last = m,
+            Event::Done => return CheckedMarks::Made(tally.count, tally.taken, tally.last),
+            Event::Mark(m) => tally = tallied(tally, end, m),
         }
-        count += 1;
         walk = step.walk;
     }
 }

@@ -23,9 +23,9 @@ use voice::Opened;
 fn store_pitch_marks(sheet: &[u8], places: Places, rate: u32, marks: &mut [u8]) -> u32
     requires { ⌜ answerIn (sheetPlaces (now sheet)) ≡ SheetAnswer.Read places ⌝ }
 {
-    match marks::check_marks(sheet, places, rate) {
+    match marks::check_marks(sheet, places, rate, 16777215) {
         CheckedMarks::Refused(cause) => refusal::number(cause),
-        CheckedMarks::Made(count, _) => {
+        CheckedMarks::Made(count, _, _) => {
             if marks.len() / 4 < count {
                 return refusal::number(Refusal::ShortBuffer);
             }

@@ -3,7 +3,7 @@ use mathlib.Core.Path.{_≡_, refl, sym, ap, subst, _∙_}
 use mathlib.Core.Bool.{Bool, true, false}
 use mathlib.Core.List.{List, [], _∷_, _++_, map, map-append}
 use mathlib.Core.Option.{Option, none, some}
-use Prim.Native.Nat.{ℕ, zero, suc, _+_, _≤_}
+use Prim.Native.Nat.{ℕ, zero, suc, _+_, _≤_, _<_}
 use native.Mathlib.Nat.{le-of-suc-le-suc}
 use native.Mathlib.Omega.{arith}
 use lib.Ieee.{Float}
@@ -148,3 +148,13 @@ pub units-append : (v : Voice) (fold : Bool) (ss m : List SegmentRead) → Refer
 units-append v fold ss m r =
     let l = length-folded fold ss in
     rw (folded-append fold ss m) (all-append v (folded fold ss) (folded fold m) (folded fold ss) (rw l (refers-folded fold (length ss) ss r)))
+
+-- two segments make units
+all-some : (v : Voice) (ss rs : List SegmentRead) → 2 ≤ length rs → 0 < length (unitsAll v ss rs)
+unfolding unitsAll unitsFrom unitsOfPair
+all-some v ss [] h = absurd (omega arith)
+all-some v ss (s ∷ []) h = absurd (omega arith)
+all-some v ss (s ∷ t ∷ rs) h = omega arith
+
+pub units-some : (v : Voice) (fold : Bool) (ss : List SegmentRead) → 2 ≤ length ss → 0 < length (unitsOf v (folded fold ss))
+units-some v fold ss h = let l = length-folded fold ss in all-some v (folded fold ss) (folded fold ss) (omega arith)
