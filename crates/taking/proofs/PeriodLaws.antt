@@ -1,15 +1,17 @@
 -- One period: the room it takes when decoded, what the decode buffer's front has then, and the source that is put into its window.
 use mathlib.Core.Path.{_≡_, refl, sym, ap, subst, _∙_}
-use mathlib.Core.Bool.{true, false}
-use mathlib.Core.List.{List, _++_}
+use mathlib.Core.Bool.{Bool, true, false}
+use mathlib.Core.List.{List, [], _∷_, _++_, append-assoc}
 use mathlib.Core.Logic.{⊎-elim}
-use Prim.Native.Nat.{ℕ, zero, suc, _*_, _≤_, _<_, zero-le}
+use Prim.Native.Nat.{ℕ, zero, suc, _+_, _-_, _*_, _≤_, _<_, zero-le}
 use native.Mathlib.Nat.{eq-or-lt-of-le, le-of-suc-le-suc}
 use native.Mathlib.Omega.{arith}
 use borrow.Author.Tests.{lt-ltb, le-ltb}
-use lib.Dec.{eqb}
-use lib.ListN.{length, take, drop, length-take, take-append-drop}
-use lib.Seq.{sets}
+use lib.Dec.{eqb, ltb}
+use lib.ListN.{length, take, drop, length-append, length-take, length-drop, take-append-drop, drop-of-length-le}
+use lib.Seq.{sets, drop-append-le, drop-append-add, drop-drop}
+use Rattle.base.specs.Choice.{pick}
+use Rattle.base.proofs.CaseLaws.{by-order}
 use Rattle.base.specs.Buffers.{over, flat}
 use Rattle.base.specs.Bytes.{bytesOf}
 use Rattle.base.proofs.BufferLaws.{over-nil, take-over, length-flat}
@@ -26,6 +28,7 @@ use Rattle.voice.specs.Periods.{offset, gap, residualOf, samplesOf, rowOf, long
 use Rattle.voice.specs.Opening.{IsOpen}
 use Rattle.voice.proofs.TableLaws.{header-is}
 use Rattle.excitation.specs.Source.{decodedBy, sourceBy, sourceOf, centred}
+use Rattle.excitation.specs.Taken.{Period, decodedOver}
 use Rattle.excitation.proofs.SizedLaws.{length-row}
 use Rattle.taking.specs.declared.Progress.{Progress}
 use Rattle.taking.specs.Taking.{decodedOf, HasDecoded, Held, TakesSamples}
@@ -53,6 +56,43 @@ decoded-fits v p h = by (codecOf (v .header))
 pub over-same : (p d : List ℕ) → take (length p) d ≡ p → d ≡ over p d
 unfolding over
 over-same p d e = sym (take-append-drop (length p) d) ∙ ap (λ (l : List ℕ). l ++ drop (length p) d) e
+
+-- one overlay after the other
+pub over-twice : (p q d : List ℕ) → over (over p q) d ≡ over p (over q d)
+unfolding over
+over-twice p q d =
+    append-assoc p (drop (length p) q) (drop (length (p ++ drop (length p) q)) d)
+    ∙ ap (λ (l : List ℕ). p ++ l) (by-order (length q) (length p) shorter longer)
+  where
+    rest : List ℕ
+    rest = drop (length q) d
+
+    long : length (p ++ drop (length p) q) ≡ length p + (length q - length p)
+    long = simp (length-append, length-drop)
+
+    shorter : length q < length p → drop (length p) q ++ drop (length (p ++ drop (length p) q)) d ≡ drop (length p) (q ++ rest)
+    shorter h =
+        let n : length (p ++ drop (length p) q) ≡ length p = long ∙ omega arith in
+        let m : length p ≡ length q + (length p - length q) = omega arith in
+        let e : drop (length p) q ≡ [] = drop-of-length-le q {i = length p} (omega arith) in
+        ap (λ (l : List ℕ). l ++ drop (length (p ++ drop (length p) q)) d) e
+        ∙ ap (λ (k : ℕ). drop k d) (n ∙ m)
+        ∙ sym (ap (λ (k : ℕ). drop k (q ++ rest)) m ∙ drop-append-add q rest (length p - length q) ∙ drop-drop (length p - length q) (length q) d)
+
+    longer : length p ≤ length q → drop (length p) q ++ drop (length (p ++ drop (length p) q)) d ≡ drop (length p) (q ++ rest)
+    longer h =
+        let n : length (p ++ drop (length p) q) ≡ length q = long ∙ omega arith in
+        ap (λ (k : ℕ). drop (length p) q ++ drop k d) n ∙ sym (drop-append-le (length p) q rest h)
+
+-- so what is written of the decode buffer does not depend on what was there
+pub decoded-over : (v : Voice) (ps : List Period) (p d : List ℕ) → over (decodedOver v p ps) d ≡ decodedOver v (over p d) ps
+unfolding decodedOver
+decoded-over v [] p d = refl
+decoded-over v (q ∷ ps) p d = by (ltb 0 (q .size)) (λ p. decoded-over v ps p d)
+  where
+    by : (t : Bool) → ((p : List ℕ) → over (decodedOver v p ps) d ≡ decodedOver v (over p d) ps) → over (decodedOver v (pick t (over (decodedOf v (q .number)) p) p) ps) d ≡ decodedOver v (pick t (over (decodedOf v (q .number)) (over p d)) (over p d)) ps
+    by true more = more (over (decodedOf v (q .number)) p) ∙ ap (λ (l : List ℕ). decodedOver v l ps) (over-twice (decodedOf v (q .number)) p d)
+    by false more = more p
 
 pub decoded-held : (v : Voice) (p : ℕ) (d : List ℕ) → HasDecoded v (over (decodedOf v p) d) p
 decoded-held v p d = take-over (decodedOf v p) d (length (decodedOf v p)) refl

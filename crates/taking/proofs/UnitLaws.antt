@@ -76,6 +76,18 @@ mark-grows v u pace place mark (m ∷ ms) r = by (leb m (u .«target_end»)) (ma
     by true h = let a = r .0 in omega (arith, a, h)
     by false h = le-refl mark
 
+-- the marks that are left do not fall either, from the last one taken on
+pub left-rises : (v : Voice) (u : Unit) (pace place : Float) (mark : ℕ) (ms : List ℕ) → Rising mark ms
+    → Rising (takeUnit v u pace place mark ms .mark) (takeUnit v u pace place mark ms .left)
+unfolding takeUnit
+left-rises v u pace place mark [] r = tt
+left-rises v u pace place mark (m ∷ ms) r = by (leb m (u .«target_end»)) (left-rises v u pace (placeAfterSize place pace (m - mark)) m ms (r .1))
+  where
+    by : (t : Bool) → Rising (takeUnit v u pace (placeAfterSize place pace (m - mark)) m ms .mark) (takeUnit v u pace (placeAfterSize place pace (m - mark)) m ms .left)
+        → Rising (takeMark v u pace place mark m ms t .mark) (takeMark v u pace place mark m ms t .left)
+    by true h = h
+    by false h = r
+
 -- ---- all that is left behind once some periods are taken: how many are taken, the last mark, the marks that are left, and the buffers
 
 pub record Whole : Type 0 where
