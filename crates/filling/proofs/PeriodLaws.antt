@@ -1,25 +1,19 @@
 -- What taken periods leave in the buffers, in parts and as a whole.
 use mathlib.Core.Path.{_≡_, refl, sym, ap, _∙_}
-use mathlib.Core.Bool.{Bool, true, false}
-use mathlib.Core.List.{List, [], _∷_, _++_, append-assoc, map-append}
-use Prim.Native.Nat.{ℕ, _+_, _-_, _*_, _≤_, _<_}
+use mathlib.Core.List.{List, [], _∷_, _++_, map-append}
+use Prim.Native.Nat.{ℕ, _+_, _-_, _*_, _≤_}
 use native.Mathlib.Nat.{mul-add, mul-comm, zero-mul}
 use native.Mathlib.Omega.{arith}
-use lib.Dec.{ltb}
-use lib.ListN.{length, drop, length-append, length-map, length-drop, drop-of-length-le}
-use lib.Seq.{sets, drop-append-le, drop-append-add, drop-drop}
-use Rattle.base.specs.Choice.{pick}
+use lib.ListN.{length, length-append, length-map}
+use lib.Seq.{sets}
 use Rattle.base.specs.Buffers.{over, flat}
 use Rattle.base.specs.Bytes.{bytesOf}
 use Rattle.base.proofs.BufferLaws.{over-nil, sets-append, sets-over, flat-append, length-flat}
 use Rattle.base.proofs.ByteLaws.{length-bytesOf}
-use Rattle.base.proofs.CaseLaws.{by-order}
-use Rattle.voice.specs.Header.{codecOf}
 use Rattle.voice.specs.Voice.{Voice}
-use Rattle.voice.specs.Periods.{residualOf}
-use Rattle.excitation.specs.Source.{decodedBy}
 use Rattle.excitation.specs.Taken.{Period, sizesOf, rowsOf, excitationOf, decodedOver}
 use Rattle.excitation.proofs.SizedLaws.{Sized, rows-length}
+use Rattle.taking.proofs.PeriodLaws.{decoded-over}
 use Rattle.filling.specs.Filling.{PeriodBuffers, lentPeriods, fillPeriods, HasRoom}
 
 -- ---- in two parts
@@ -98,36 +92,6 @@ fill-none v taken mark b = refl
 
 -- ---- from the front
 
-over-over : (a b d : List ℕ) → over (over a b) d ≡ over a (over b d)
-unfolding over
-over-over a b d = append-assoc a (drop (length a) b) _ ∙ ap (λ (l : List ℕ). a ++ l) (by-order (length a) (length b) (λ h. within h) (λ h. past h))
-  where
-    within : length a < length b → drop (length a) b ++ drop (length (a ++ drop (length a) b)) d ≡ drop (length a) (b ++ drop (length b) d)
-    within h =
-        let e : length (a ++ drop (length a) b) ≡ length b = simp (length-append, length-drop) (omega arith) in
-        rw e (sym (drop-append-le (length a) b (drop (length b) d) (omega arith)))
-
-    past : length b ≤ length a → drop (length a) b ++ drop (length (a ++ drop (length a) b)) d ≡ drop (length a) (b ++ drop (length b) d)
-    past h =
-        let e : length (a ++ drop (length a) b) ≡ length a = simp (length-append, length-drop) (omega arith) in
-        let k : length a ≡ length b + (length a - length b) = omega arith in
-        let f : drop (length a) b ≡ [] = drop-of-length-le b h in
-        let g : drop (length b + (length a - length b)) (b ++ drop (length b) d) ≡ drop (length b + (length a - length b)) d = drop-append-add b (drop (length b) d) (length a - length b) ∙ drop-drop (length a - length b) (length b) d in
-        ap (λ (n : ℕ). drop (length a) b ++ drop n d) e ∙ ap (λ (l : List ℕ). l ++ drop (length a) d) f ∙ ap (λ (n : ℕ). drop n d) k ∙ sym g ∙ ap (λ (n : ℕ). drop n (b ++ drop (length b) d)) (sym k)
-
--- what is written to the decode buffer is as if it had been written to none
-decoded-over : (v : Voice) (a d : List ℕ) (ps : List Period) → over (decodedOver v a ps) d ≡ decodedOver v (over a d) ps
-unfolding decodedOver
-decoded-over v a d [] = refl
-decoded-over v a d (p ∷ ps) = decoded-over v _ d ps ∙ ap (λ (l : List ℕ). decodedOver v l ps) (by (ltb 0 (p .size)))
-  where
-    x : List ℕ
-    x = decodedBy (codecOf (v .header)) (residualOf v (p .number))
-
-    by : (t : Bool) → over (pick t (over x a) a) d ≡ pick t (over x (over a d)) (over a d)
-    by true = over-over x a d
-    by false = refl
-
 pub record OverEach (v : Voice) (ps : List Period) (b b₁ : PeriodBuffers) : Type 0 where
   pub sizes : b₁ .sizes ≡ over (flat (bytesOf 4) (sizesOf ps)) (b .sizes)
   pub rows : b₁ .rows ≡ over (flat (bytesOf 2) (rowsOf ps)) (b .rows)
@@ -148,5 +112,5 @@ fill-over v ps b s r =
       sizes = sets-over (flat (bytesOf 4) (sizesOf ps)) (b .sizes) (omega (arith, r .sizes));
       rows = ap (λ (k : ℕ). sets (b .rows) (2 * k) (flat (bytesOf 2) (rowsOf ps))) z ∙ sets-over (flat (bytesOf 2) (rowsOf ps)) (b .rows) (omega arith);
       excitation = sets-over (excitationOf ps) (b .excitation) (omega (arith, r .excitation));
-      decoded = sym (decoded-over v [] (b .decoded) ps ∙ ap (λ (l : List ℕ). decodedOver v l ps) (over-nil (b .decoded)));
+      decoded = sym (decoded-over v ps [] (b .decoded) ∙ ap (λ (l : List ℕ). decodedOver v l ps) (over-nil (b .decoded)));
     }
