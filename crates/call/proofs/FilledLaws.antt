@@ -39,7 +39,7 @@ pub call-planned : (file sheet : List ℕ) (o : Settings) (b : Buffers) → call
 unfolding callRefusal checkRefusal
 call-planned file sheet o b e = next-none (sheetRefusal sheet) _ (next-none (openingRefusal file) _ (next-none _ _ e .0) .1) .1
 
-by-low : (j : JoinType) (v : Voice) (ss : List SegmentRead) (ts : List Target) → planBy j v ss ts .refusal ≡ none → Each Low (planBy j v ss ts .marks)
+pub by-low : (j : JoinType) (v : Voice) (ss : List SegmentRead) (ts : List Target) → planBy j v ss ts .refusal ≡ none → Each Low (planBy j v ss ts .marks)
 unfolding planBy simplePlan modifiedPlan
 by-low None v ss ts e = nil
 by-low Simple v ss ts e = refusal-low mostMarks (naturalMarks v 0 (unitsOf v ss)) e

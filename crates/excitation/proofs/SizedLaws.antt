@@ -86,7 +86,7 @@ HasSize order p = (length (p .row) ≡ order) × (length (p .bytes) ≡ p .size)
 abbrev pub Sized : ℕ → List Period → Type 0
 Sized order ps = Each (HasSize order) ps
 
-period-sized : (v : Voice) (size p : ℕ) → HasSize (v .header .order) (periodOf v size p)
+pub period-sized : (v : Voice) (size p : ℕ) → HasSize (v .header .order) (periodOf v size p)
 unfolding periodOf
 period-sized v size p = (length-row v p, length-centred size (sourceOf v p))
 

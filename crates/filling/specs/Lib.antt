@@ -1,0 +1,2 @@
+-- The root of filling's definitions.
+pub mod Filling
