@@ -1,2 +1,4 @@
 -- Laws for the functions that C calls.
 pub mod RecordLaws
+pub mod StateLaws
+pub mod PullLaws

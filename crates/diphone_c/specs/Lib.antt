@@ -1,2 +1,4 @@
 -- The root of diphone_c's definitions.
 pub mod Open
+pub mod State
+pub mod Pull

@@ -1,11 +1,16 @@
 // The functions that a program in C calls: numbers and byte slices alone. `report` is the C
 // header's `record`, which is a word of the logic.
+mod state;
+
 ghost use mathlib.Core.Path.{_≡_};
 ghost use Prim.Native.Nat.{_≤_};
 ghost use lib.ListN.{length};
 ghost use Rattle.base.specs.Buffers.{over};
 ghost use Rattle.voice.specs.Opening.{IsOpen};
+ghost use Rattle.call.specs.Pull.{lentOf};
 ghost use Rattle.diphone_c.specs.Open as opens;
+ghost use Rattle.diphone_c.specs.Pull as pulls;
+use call::Answer;
 use refusal::Refusal;
 use voice::DiphoneVoice;
 use voice::Opened;
@@ -59,5 +64,44 @@ pub extern "C" fn diphone_open(voice: &[u8], index: &mut [u8], report: &mut [u8]
     match opening::check(voice) {
         Opened::Open(d) => open_buffers(voice, d, index, report),
         Opened::Refused(cause) => refusal::number(cause),
+    }
+}
+
+// Minus the number of a refusal.
+fn refused(cause: Refusal) -> i64
+    ensures { λ r. ⌜ r ≡ pulls.refusedNumber cause ⌝ }
+{
+    0 - (refusal::number(cause) as i64)
+}
+
+// Pulls the next period: how many samples it gave, -1 for done, or minus the number of the refusal.
+#[no_mangle]
+pub extern "C" fn diphone_pull(
+    state: &mut [u8],
+    sizes: &[u8],
+    rows: &[u8],
+    excitation: &[u8],
+    samples: &mut [u8],
+) -> i64
+    ensures { λ r. ⌜ r ≡ pulls.numberFor (now (state .entry)) (lentOf (now (sizes .entry)) (now (rows .entry)) (now (excitation .entry))) (now (samples .entry)) ⌝ }
+    ensures { λ _. ⌜ now (state .exit) ≡ pulls.stateLeft (now (state .entry)) (lentOf (now (sizes .entry)) (now (rows .entry)) (now (excitation .entry))) (now (samples .entry)) ⌝ }
+    ensures { λ _. ⌜ now (samples .exit) ≡ pulls.sliceLeft (now (state .entry)) (lentOf (now (sizes .entry)) (now (rows .entry)) (now (excitation .entry))) (now (samples .entry)) ⌝ }
+{
+    if state.len() < 168 {
+        return refused(Refusal::BadState);
+    }
+    if base::bytes::read_u32(state, 0) > 1 {
+        return refused(Refusal::BadState);
+    }
+    let pulled = diphone::pull(state::load(state), sizes, rows, excitation, samples);
+    let answer = pulled.answer;
+    let after = pulled.state;
+    match answer {
+        Answer::Given(n) => {
+            state::store(after, state);
+            n as i64
+        }
+        Answer::Done => -1,
+        Answer::Refused(cause) => refused(cause),
     }
 }
