@@ -1,4 +1,5 @@
 -- Laws for the functions that C calls.
 pub mod RecordLaws
 pub mod StateLaws
+pub mod RoundLaws
 pub mod PullLaws

@@ -1,4 +1,4 @@
--- A filter state in bytes: what is stored, and that loading and storing undo each other.
+-- A filter state in bytes: what is stored.
 use mathlib.Core.Path.{_≡_, refl, sym, ap, _∙_}
 use mathlib.Core.List.{List, _++_}
 use Prim.Native.Nat.{ℕ, _+_, _%_, _^_, _≤_}
