@@ -29,7 +29,10 @@ enum {
                                     more than 16,777,215 bytes */
     DIPHONE_BAD_INDEX = 7,       /* the index is cut short, empty, has a name that is not UTF-8 or
                                     stands twice, or an entry that ends past the frames */
-    DIPHONE_SHORT_BUFFER = 13    /* a buffer is shorter than stated */
+    DIPHONE_SHORT_BUFFER = 13,   /* a buffer is shorter than stated */
+    DIPHONE_SHORT_SLICE = 14,    /* the sample slice is shorter than the next period */
+    DIPHONE_BAD_STATE = 15       /* the filter state is impossible, or the rows end within the
+                                    next one */
 };
 
 /* The record of a voice: the 40 bytes of its section sts.header as stored, then two numbers of
@@ -51,6 +54,36 @@ enum {
 uint32_t diphone_open(const uint8_t *DIPHONE_RESTRICT voice, size_t voice_len,
                       uint8_t *DIPHONE_RESTRICT index, size_t index_len,
                       uint8_t *DIPHONE_RESTRICT record, size_t record_len);
+
+/* A filter state: numbers of 4 bytes for the filter (0 fixed, 1 float), the order, the ring place
+ * and the bits of coeff_min and coeff_range; of 8 bytes for the period and the sample place; of 4
+ * bytes for each of the history's 33 places (an i32 of the fixed filter, the bits of an f32 of the
+ * float filter). The ring has order + 1 of these places, counted upwards; the ring place is the one
+ * written next, the order in a fresh state. */
+#define DIPHONE_STATE_BYTES 168
+
+/* What diphone_pull answers once all periods were given. */
+#define DIPHONE_DONE (-1)
+
+/* Pulls the next period of a call.
+ *
+ * Takes:   state, a filter state; sizes, rows and excitation, just as far as the call filled them:
+ *          4 bytes for each period, 2 bytes for each of its order row values, a byte for each
+ *          sample; samples, 2 bytes for each sample of the next period or more.
+ * Answers: how many samples it gave (0 or more: an empty period gives 0, so pull until the answer is
+ *          negative); or DIPHONE_DONE if all were given before; or -14 if samples is too short; or
+ *          -15 if the state is impossible: shorter than DIPHONE_STATE_BYTES, of another filter, with
+ *          an order above 32, a ring place above the order, a period or sample place past the sizes
+ *          or the excitation, or a scale outside -16 to 16, or if the rows end within the next one.
+ *          It looks for -15, then for DIPHONE_DONE, then for -14.
+ * Leaves:  where it gives a period, at the front of samples its samples (16 bits each, in two's
+ *          complement), and in state the state after it (a NaN of the float history as 0x7FC00000);
+ *          bytes past these as they were. Else all as it was. */
+int64_t diphone_pull(uint8_t *DIPHONE_RESTRICT state, size_t state_len,
+                     const uint8_t *DIPHONE_RESTRICT sizes, size_t sizes_len,
+                     const uint8_t *DIPHONE_RESTRICT rows, size_t rows_len,
+                     const uint8_t *DIPHONE_RESTRICT excitation, size_t excitation_len,
+                     uint8_t *DIPHONE_RESTRICT samples, size_t samples_len);
 
 #ifdef __cplusplus
 }

@@ -40,7 +40,16 @@ pub fn plan(
     match checking::check(voice, sheet, settings) {
         Checked::Refused(cause) => planning::refused(cause),
         Checked::Passed(fit) => planning::plan_checked(
-            voice, sheet, settings, fit, index, marks, sizes, rows, excitation, decoded,
+            voice,
+            sheet,
+            settings,
+            fit,
+            index,
+            marks,
+            sizes,
+            rows,
+            excitation,
+            decoded,
         ),
     }
 }

@@ -1,5 +1,6 @@
 -- The root of diphone_c's definitions.
 pub mod Open
-pub mod Numbers
 pub mod State
+pub mod Numbers
 pub mod Plan
+pub mod Pull

@@ -7,7 +7,7 @@ use Prim.Native.Nat.{ℕ, _+_, _*_}
 use lib.Dec.{eqb}
 use lib.IntN.{pos}
 use lib.ListN.{getD, replicate}
-use lib.Ieee.{Float, fin, binary32, ofBits, toBits}
+use lib.Ieee.{Float, nan, fin, binary32, ofBits, toBits}
 use Rattle.base.specs.Choice.{pick}
 use Rattle.base.specs.Buffers.{flat, upto}
 use Rattle.base.specs.Bytes.{littleEndian, bytesOf}
@@ -73,9 +73,10 @@ headBytes s =
     ++ (bytesOf 8 (s .period)
     ++ bytesOf 8 (s .«sample_place»))))))
 
+-- the history's place i, as a word
 abbrev pub wordBy : ResynthType → FilterState → ℕ → ℕ
 wordBy Fixed s i = getD (s .fixed) i 0
-wordBy FloatType s i = toBits binary32 (getD (s .float) i (fin false 0 (pos 0)))
+wordBy FloatType s i = toBits binary32 (getD (s .float) i nan)
 
 abbrev pub wordOf : FilterState → ℕ → ℕ
 wordOf s i = wordBy (s .filter) s i

@@ -2,17 +2,19 @@
 // header's `record`, which is a word of the logic.
 mod numbers;
 mod planned;
-mod stub;
+mod state;
 
 ghost use mathlib.Core.Path.{_≡_};
 ghost use Prim.Native.Nat.{_≤_};
 ghost use lib.ListN.{length};
 ghost use Rattle.base.specs.Buffers.{over};
 ghost use Rattle.voice.specs.Opening.{IsOpen};
-ghost use Rattle.call.specs.Buffers as calls;
+ghost use Rattle.call.specs.Pull.{lentOf};
 ghost use Rattle.diphone_c.specs.Open as opens;
 ghost use Rattle.diphone_c.specs.Numbers as numbers;
 ghost use Rattle.diphone_c.specs.Plan as plans;
+ghost use Rattle.diphone_c.specs.Pull as pulls;
+use call::Answer;
 use checking::Checked;
 use refusal::Refusal;
 use voice::DiphoneVoice;
@@ -82,7 +84,7 @@ pub extern "C" fn diphone_need(
     ensures { λ r. ⌜ r ≡ opens.answerOf (plans.refusalOfNeed (now (voice .entry)) (now (sheet .entry)) (numbers.settingsOf join 0 fold) (length (now (need .entry)))) ⌝ }
     ensures { λ _. ⌜ now (need .exit) ≡ plans.needLeft (now (voice .entry)) (now (sheet .entry)) (numbers.settingsOf join 0 fold) (now (need .entry)) ⌝ }
 {
-    match stub::check(voice, sheet, numbers::settings_of(join, 0, fold)) {
+    match checking::check(voice, sheet, numbers::settings_of(join, 0, fold)) {
         Checked::Refused(cause) => refusal::number(cause),
         Checked::Passed(fit) => planned::report_need(fit.need, need),
     }
@@ -119,7 +121,7 @@ pub extern "C" fn diphone_plan(
         ⌝ }
 {
     let settings = numbers::settings_of(join, filter, fold);
-    match stub::check(voice, sheet, settings) {
+    match checking::check(voice, sheet, settings) {
         Checked::Refused(cause) => refusal::number(cause),
         Checked::Passed(fit) => planned::plan_checked(
             voice,
@@ -135,5 +137,44 @@ pub extern "C" fn diphone_plan(
             state,
             summary,
         ),
+    }
+}
+
+// Minus the number of a refusal.
+fn refused(cause: Refusal) -> i64
+    ensures { λ r. ⌜ r ≡ pulls.refusedNumber cause ⌝ }
+{
+    0 - (refusal::number(cause) as i64)
+}
+
+// Pulls the next period: how many samples it gave, -1 for done, or minus the number of the refusal.
+#[no_mangle]
+pub extern "C" fn diphone_pull(
+    state: &mut [u8],
+    sizes: &[u8],
+    rows: &[u8],
+    excitation: &[u8],
+    samples: &mut [u8],
+) -> i64
+    ensures { λ r. ⌜ r ≡ pulls.numberFor (now (state .entry)) (lentOf (now (sizes .entry)) (now (rows .entry)) (now (excitation .entry))) (now (samples .entry)) ⌝ }
+    ensures { λ _. ⌜ now (state .exit) ≡ pulls.stateLeft (now (state .entry)) (lentOf (now (sizes .entry)) (now (rows .entry)) (now (excitation .entry))) (now (samples .entry)) ⌝ }
+    ensures { λ _. ⌜ now (samples .exit) ≡ pulls.sliceLeft (now (state .entry)) (lentOf (now (sizes .entry)) (now (rows .entry)) (now (excitation .entry))) (now (samples .entry)) ⌝ }
+{
+    if state.len() < 168 {
+        return refused(Refusal::BadState);
+    }
+    if base::bytes::read_u32(state, 0) > 1 {
+        return refused(Refusal::BadState);
+    }
+    let pulled = diphone::pull(state::load(state), sizes, rows, excitation, samples);
+    let answer = pulled.answer;
+    let after = pulled.state;
+    match answer {
+        Answer::Given(n) => {
+            state::store(after, state);
+            n as i64
+        }
+        Answer::Done => -1,
+        Answer::Refused(cause) => refused(cause),
     }
 }

@@ -6,6 +6,7 @@ ghost use lib.ListN.{length};
 ghost use Rattle.base.specs.Buffers.{over, flat};
 ghost use Rattle.base.specs.Bytes.{bytesOf};
 ghost use Rattle.diphone_c.specs.Numbers as numbers;
+ghost use Rattle.diphone_c.specs.State as states;
 use call::JoinType;
 use call::Settings;
 use lpc::ResynthType;
@@ -25,7 +26,7 @@ fn join_of(n: u32) -> JoinType
 
 // The filter of a number: 0 fixed, any other float.
 fn filter_of(n: u32) -> ResynthType
-    ensures { λ r. ⌜ r ≡ numbers.filterOf n ⌝ }
+    ensures { λ r. ⌜ r ≡ states.filterOf n ⌝ }
 {
     if n == 0 {
         return ResynthType::Fixed;

@@ -86,7 +86,7 @@ pub fn plan_checked(
     if summary.len() < 48 {
         return refusal::number(Refusal::ShortBuffer);
     }
-    let planned = super::stub::plan_checked(
+    let planned = planning::plan_checked(
         voice,
         sheet,
         settings,
@@ -103,7 +103,7 @@ pub fn plan_checked(
     match answer {
         Called::Refused(cause) => refusal::number(cause),
         Called::Spoken(m) => {
-            super::stub::store(after, state);
+            super::state::store(after, state);
             write_summary(m, summary);
             0
         }

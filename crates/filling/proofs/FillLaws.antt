@@ -31,8 +31,8 @@ use Rattle.call.specs.declared.Settings.{Settings}
 use Rattle.call.specs.declared.Need.{Need}
 use Rattle.call.specs.Call.{Plan, emptyPlan, planBy, planOf, periodsTaken}
 use Rattle.call.proofs.CallLaws.{twoSegments}
-use Rattle.call.specs.Buffers.{Buffers, filled, needOf, holds, overAll}
-use Rattle.filling.specs.Filling.{planned, PeriodBuffers, lentPeriods, fillPeriods, HasRoom, joinTakes, CanJoin, lent, CanFill}
+use Rattle.call.specs.Buffers.{Buffers, lent, filled, needOf, holds, lengthsOf, overAll}
+use Rattle.filling.specs.Filling.{planned, PeriodBuffers, lentPeriods, fillPeriods, HasRoom, joinTakes, CanJoin, CanFill}
 use Rattle.filling.proofs.PeriodLaws.{rows-count, fill-none, OverEach, fill-over}
 use Rattle.filling.proofs.JoinLaws.{taken-few}
 
@@ -87,15 +87,15 @@ module _ (file sheet : List ℕ) (o : Settings) (d : DiphoneVoice) (p : Places) 
   abbrev ps : List Period
   ps = periodsTaken v s o
 
-  rooms : holds (needOf v s o) b ≡ true
-  rooms = subst (λ (n : Need). holds n b ≡ true) (h .need) (h .room)
+  rooms : holds (needOf v s o) (lengthsOf b) ≡ true
+  rooms = subst (λ (n : Need). holds n (lengthsOf b) ≡ true) (h .need) (h .room)
 
   pub index-room : indexFits v (length (b .index)) ≡ true
-  unfolding indexFits needOf
+  unfolding indexFits needOf holds
   index-room = every-at _ rooms 0
 
   marks-room : length (planOf v s o .marks) ≤ length (b .marks) / 4
-  unfolding needOf
+  unfolding needOf holds
   marks-room = leb-true _ (length (b .marks) / 4) (every-at _ rooms 1)
 
   sized : Sized (v .header .order) ps
@@ -103,7 +103,7 @@ module _ (file sheet : List ℕ) (o : Settings) (d : DiphoneVoice) (p : Places) 
   sized = taken-sized v (planOf v s o .units) (planOf v s o .marks)
 
   periods-room : HasRoom v 0 0 ps (lentPeriods (b .sizes) (b .rows) (b .excitation) (b .decoded))
-  unfolding needOf
+  unfolding needOf holds
   periods-room =
       let a : length ps ≤ length (b .sizes) / 4 = leb-true _ (length (b .sizes) / 4) (every-at _ rooms 2) in
       let c : length (rowsOf ps) ≤ length (b .rows) / 2 = leb-true _ (length (b .rows) / 2) (every-at _ rooms 3) in
@@ -140,7 +140,7 @@ module _ (file sheet : List ℕ) (o : Settings) (d : DiphoneVoice) (p : Places) 
     periods-are = ap (λ (q : Plan). taken v (q .units) (q .marks)) plan-is
 
     pub can-join : (index : List ℕ) → index ≡ over (indexBytes v) (b .index) → length file < 2 ^ 63 → CanJoin (o .join) file index sheet by (n .marks) (length (b .marks)) four
-    unfolding needOf
+    unfolding needOf holds
     can-join index e f =
         let m = marks-room in
         record {

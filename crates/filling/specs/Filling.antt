@@ -30,7 +30,7 @@ use Rattle.call.specs.declared.JoinType.the-variants.{None, Simple, ModifiedLpc
 use Rattle.call.specs.declared.Settings.{Settings}
 use Rattle.call.specs.declared.Need.{Need}
 use Rattle.call.specs.Call.{Plan, planBy, planOf}
-use Rattle.call.specs.Buffers.{Buffers, needOf, holds}
+use Rattle.call.specs.Buffers.{Buffers, needOf, holds, lengthsOf}
 
 -- the units that are selected from the sheet
 abbrev pub selected : List ℕ → List ℕ → Selection → List Unit
@@ -128,14 +128,10 @@ pub record CanJoin (join : JoinType) (file index sheet : List ℕ) (by : Selecti
 
 -- ---- all buffers of a call
 
-abbrev pub lent : List ℕ → List ℕ → List ℕ → List ℕ → List ℕ → List ℕ → Buffers
-lent index marks sizes rows excitation decoded =
-    record { index = index; marks = marks; sizes = sizes; rows = rows; excitation = excitation; decoded = decoded }
-
 -- the voice opens, the sheet was read, nothing refuses their call, and each buffer has what it needs
 pub record CanFill (file sheet : List ℕ) (o : Settings) (d : DiphoneVoice) (p : Places) (n : Need) (b : Buffers) : Type 0 where
   pub opened : IsOpen file d
   pub places : answerIn (sheetPlaces sheet) ≡ Read p
   pub passed : planOf (voiceOf file) (sheetOf sheet) o .refusal ≡ none
   pub need : n ≡ needOf (voiceOf file) (sheetOf sheet) o
-  pub room : holds n b ≡ true
+  pub room : holds n (lengthsOf b) ≡ true

@@ -21,10 +21,11 @@ use Rattle.call.specs.declared.Need.{Need}
 use Rattle.call.specs.declared.Summary.{Summary}
 use Rattle.call.specs.declared.Called.the-variants.{Spoken}
 use Rattle.call.specs.declared.Planned.{Planned}
-use Rattle.call.specs.Buffers.{Buffers, lent, needOf, holds, lengthsOf, fits, filled, checkRefusal, callRefusal, summaryOf, freshOf, refusedBy, answerBy, plannedOf, overAll, buffersAfter}
+use Rattle.call.specs.Buffers.{Buffers, needOf, holds, lengthsOf, fits, filled, checkRefusal, callRefusal, summaryOf, freshOf, refusedBy, answerBy, plannedOf, overAll, buffersAfter}
 use Rattle.checking.specs.declared.Fit.{Fit}
 use Rattle.checking.specs.Checks.{Passes}
-use Rattle.planning.specs.Planning.{summaryBy, CanFill}
+use Rattle.filling.specs.Filling.{CanFill}
+use Rattle.planning.specs.Planning.{summaryBy}
 
 module _ (file sheet : List ℕ) (o : Settings) (b : Buffers) (p : checkRefusal file sheet o ≡ none) where
   pub passed-by : callRefusal file sheet o b ≡ pick (fits (voiceOf file) (sheetOf sheet) o b) none (some ShortBuffer)
@@ -62,11 +63,11 @@ module _ (file sheet : List ℕ) (o : Settings) (f : Fit) (h : Passes file sheet
   unfolding fits
   fits-is = ap (λ (n : Need). holds n (lengthsOf b)) (sym (h .need))
 
-  pub can-fill : fits (voiceOf file) (sheetOf sheet) o b ≡ true → CanFill file sheet o (f .voice) (f .places) (f .need) (lengthsOf b)
+  pub can-fill : fits (voiceOf file) (sheetOf sheet) o b ≡ true → CanFill file sheet o (f .voice) (f .places) (f .need) b
   unfolding checkRefusal
   can-fill e =
       record {
-        planned = next-none (sheetRefusal sheet) _ (next-none (openingRefusal file) _ (h .passed) .1) .1;
+        passed = next-none (sheetRefusal sheet) _ (next-none (openingRefusal file) _ (h .passed) .1) .1;
         opened = h .opened;
         places = h .places;
         need = h .need;
@@ -105,7 +106,3 @@ module _ (file sheet : List ℕ) (o : Settings) (f : Fit) (h : Passes file sheet
   short-ends p after e x y =
       let n = short-call file sheet o b (h .passed) (fits-is ∙ e) in
       (x ∙ sym (refused-planned file sheet o b ShortBuffer n), y ∙ sym (refused-buffers file sheet o b ShortBuffer n))
-
--- buffers that are the same, one by one
-pub lent-same : {a a′ b b′ c c′ d d′ e e′ f f′ : List ℕ} → (a ≡ a′) × ((b ≡ b′) × ((c ≡ c′) × ((d ≡ d′) × ((e ≡ e′) × (f ≡ f′))))) → lent a b c d e f ≡ lent a′ b′ c′ d′ e′ f′
-lent-same q = let a = q .0 in let b = q .1 .0 in let c = q .1 .1 .0 in let d = q .1 .1 .1 .0 in let e = q .1 .1 .1 .1 .0 in let f = q .1 .1 .1 .1 .1 in cc

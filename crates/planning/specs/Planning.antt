@@ -30,10 +30,3 @@ summaryBy rate order n =
       order = order;
       entries = n .entries;
     }
-
-pub record CanFill (file sheet : List ℕ) (o : Settings) (d : DiphoneVoice) (p : Places) (n : Need) (l : Lengths) : Type 0 where
-  pub planned : planOf (voiceOf file) (sheetOf sheet) o .refusal ≡ none
-  pub opened : IsOpen file d
-  pub places : answerIn (sheetPlaces sheet) ≡ Read p
-  pub need : n ≡ needOf (voiceOf file) (sheetOf sheet) o
-  pub room : holds n l ≡ true

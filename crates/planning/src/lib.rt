@@ -70,27 +70,6 @@ fn holds(need: Need, lengths: Lengths) -> bool
     need.decoded <= lengths.decoded
 }
 
-fn fill(
-    file: &[u8],
-    sheet: &[u8],
-    settings: Settings,
-    fit: Fit,
-    index: &mut [u8],
-    marks: &mut [u8],
-    sizes: &mut [u8],
-    rows: &mut [u8],
-    excitation: &mut [u8],
-    decoded: &mut [u8],
-)
-    requires { ⌜ planning.CanFill (now file) (now sheet) settings (fit .voice) (fit .places) (fit .need) (calls.lengthsOf (calls.lent (now index) (now marks) (now sizes) (now rows) (now excitation) (now decoded))) ⌝ }
-    ensures { λ _. ⌜ now (index .exit) ≡ over (calls.filled (voiceOf (now (file .entry))) (sheetOf (now (sheet .entry))) settings .index) (now (index .entry)) ⌝ }
-    ensures { λ _. ⌜ now (marks .exit) ≡ over (calls.filled (voiceOf (now (file .entry))) (sheetOf (now (sheet .entry))) settings .marks) (now (marks .entry)) ⌝ }
-    ensures { λ _. ⌜ now (sizes .exit) ≡ over (calls.filled (voiceOf (now (file .entry))) (sheetOf (now (sheet .entry))) settings .sizes) (now (sizes .entry)) ⌝ }
-    ensures { λ _. ⌜ now (rows .exit) ≡ over (calls.filled (voiceOf (now (file .entry))) (sheetOf (now (sheet .entry))) settings .rows) (now (rows .entry)) ⌝ }
-    ensures { λ _. ⌜ now (excitation .exit) ≡ over (calls.filled (voiceOf (now (file .entry))) (sheetOf (now (sheet .entry))) settings .excitation) (now (excitation .entry)) ⌝ }
-    ensures { λ _. ⌜ now (decoded .exit) ≡ over (calls.filled (voiceOf (now (file .entry))) (sheetOf (now (sheet .entry))) settings .decoded) (now (decoded .entry)) ⌝ }
-{}
-
 // Fills the buffers of a call that fit.
 fn plan_filled(
     file: &[u8],
@@ -108,11 +87,13 @@ fn plan_filled(
     ensures { λ r. ⌜ r ≡ calls.plannedOf (now (file .entry)) (now (sheet .entry)) settings (calls.lent (now (index .entry)) (now (marks .entry)) (now (sizes .entry)) (now (rows .entry)) (now (excitation .entry)) (now (decoded .entry))) ⌝ }
     ensures { λ _. ⌜ calls.lent (now (index .exit)) (now (marks .exit)) (now (sizes .exit)) (now (rows .exit)) (now (excitation .exit)) (now (decoded .exit)) ≡ calls.buffersAfter (now (file .entry)) (now (sheet .entry)) settings (calls.lent (now (index .entry)) (now (marks .entry)) (now (sizes .entry)) (now (rows .entry)) (now (excitation .entry)) (now (decoded .entry))) ⌝ }
 {
-    fill(
+    filling::fill(
         file,
         sheet,
         settings,
-        fit,
+        fit.voice,
+        fit.places,
+        fit.need,
         index,
         marks,
         sizes,

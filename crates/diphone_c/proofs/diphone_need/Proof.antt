@@ -35,7 +35,7 @@ report-need-requires c κs = search needs
 
 -- src/lib.rt:73:1
 returns : tie.Need-returns
-returns c = 
+returns c =
     let s = c .before .before .before .before .before .before .before .before .before in
     let a = s .args in
     need-refused (a .voice .now) (a .sheet .now) _ (a .need .now) _ _ (checks-refused (a .voice .now) (a .sheet .now) (c .before .before .before .before .before .settings-of .ensures) (c .before .before .before .before .check .ensures) (c .before .before .cause .given .1)) (c .number .ensures)
@@ -46,7 +46,7 @@ same-length c = search needs
 
 -- src/lib.rt:73:1
 returns-2 : tie.Need-returns-2
-returns-2 c = 
+returns-2 c =
     let s = c .before .before .before .before .before .before .before .before .before .before .before .before in
     let a = s .args in
     let f = checks-passed (a .voice .now) (a .sheet .now) (c .before .before .before .before .before .before .before .before .settings-of .ensures) (c .before .before .before .before .before .before .before .check .ensures) (c .before .before .before .before .before .fit .given .1) in

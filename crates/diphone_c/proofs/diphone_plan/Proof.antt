@@ -33,13 +33,13 @@ enum-known-fit c = search needs
 
 -- src/lib.rt:124:33
 plan-checked-requires : tie.Need-plan-checked-requires
-plan-checked-requires c κs = 
+plan-checked-requires c κs =
     let a = c .before .before .before .before .before .before .before .before .before .before .before .before .before .before .before .before .before .before .before .before .before .before .before .args in
     checks-passed (a .voice .now) (a .sheet .now) refl (c .before .before .before .before .before .before .before .before .before .before .before .check .ensures) (c .before .before .before .before .before .before .before .before .before .fit .given .1)
 
 -- src/lib.rt:92:1
 returns : tie.Need-returns
-returns c = 
+returns c =
     let s = c .before .before .before .before .before .before .before .before .before .before .before .before .before .before .before .before in
     let a = s .args in
     let h = (handed (a .index .now) (a .marks .now) (a .sizes .now) (a .rows .now) (a .excitation .now) (a .decoded .now) (a .state .now) (a .summary .now)) in
@@ -79,7 +79,7 @@ same-length-8 c = search needs
 
 -- src/lib.rt:92:1
 returns-2 : tie.Need-returns-2
-returns-2 c = 
+returns-2 c =
     let a = c .before .before .before .before .before .before .before .before .before .before .before .before .before .before .before .before .before .before .before .before .before .before .before .before .before .before .before .before .before .before .before .before .before .before .before .before .before .before .before .before .args in
     by-settings (a .voice .now) (a .sheet .now) (handed (a .index .now) (a .marks .now) (a .sizes .now) (a .rows .now) (a .excitation .now) (a .decoded .now) (a .state .now) (a .summary .now)) (c .before .before .before .before .before .before .before .before .before .before .before .before .before .before .before .before .before .before .before .before .before .before .before .before .before .before .before .before .before .settings-of .ensures) (c .before .before .before .before .before .before .before .before .before .before .before .before .before .before .before .before .plan-checked .ensures)
 

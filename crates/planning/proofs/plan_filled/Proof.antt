@@ -1,12 +1,12 @@
 use Rattle.call.specs.Buffers.{lent}
-use Rattle.planning.proofs.PlanLaws.{can-fill, spoken-ends, lent-same}
+use Rattle.planning.proofs.PlanLaws.{can-fill, spoken-ends}
 use borrow.Author.Needs.{needs}
 use Rattle.planning.proofs.plan_filled.Statement.{statement}
 use Rattle.planning.proofs.plan_filled.Tie as tie
 use Rattle.planning.proofs.plan_filled.Reads as reads
 use Rattle.planning.proofs.plan_filled.Lts as lts
 use Rattle.lpc.proofs.FilterState.fresh.Reads as fresh-reads
-use Rattle.planning.proofs.fill.Reads as fill-reads
+use Rattle.filling.proofs.fill.Reads as fill-reads
 use Rattle.planning.proofs.summary.Reads as summary-reads
 
 -- src/lib.rt:111:5
@@ -58,7 +58,7 @@ returns c =
     let s = c .before .before .before .before .before .before .before .before .before .before .before .before .before .before .before .before .before .before .before .before .before .before .before .before .before .before .before .before .before .before .before .before in
     let a = s .args in
     let l = c .before .before .before .before .before .before .before .before .before .before .before .before .before .before .before .before .before .fill .ensures in
-    spoken-ends (a .file .now) (a .sheet .now) (a .settings) (a .fit) (s .pre .0) (lent (a .index .now) (a .marks .now) (a .sizes .now) (a .rows .now) (a .excitation .now) (a .decoded .now)) _ _ _ (s .pre .1) (c .before .before .summary .ensures) (c .fresh .ensures) (lent-same l)
+    spoken-ends (a .file .now) (a .sheet .now) (a .settings) (a .fit) (s .pre .0) (lent (a .index .now) (a .marks .now) (a .sizes .now) (a .rows .now) (a .excitation .now) (a .decoded .now)) _ _ _ (s .pre .1) (c .before .before .summary .ensures) (c .fresh .ensures) l
 
 pub plan-filled-spec : {M : Type 1} → statement M
 plan-filled-spec =

@@ -17,7 +17,7 @@ number-requires c κs = search needs
 
 -- src/planned.rt:84:9
 returns : tie.Need-returns
-returns c = 
+returns c =
     let s = c .before .before .before .before .before .before .before .before .before .before .before .before in
     let a = s .args in
     let h = (handed (a .index .now) (a .marks .now) (a .sizes .now) (a .rows .now) (a .excitation .now) (a .decoded .now) (a .state .now) (a .summary .now)) in
@@ -29,7 +29,7 @@ number-requires-2 c κs = search needs
 
 -- src/planned.rt:87:9
 returns-2 : tie.Need-returns-2
-returns-2 c = 
+returns-2 c =
     let s = c .before .before .before .before .before .before .before .before .before .before .before .before .before in
     let a = s .args in
     let h = (handed (a .index .now) (a .marks .now) (a .sizes .now) (a .rows .now) (a .excitation .now) (a .decoded .now) (a .state .now) (a .summary .now)) in
@@ -85,7 +85,7 @@ same-length-6 c = search needs
 
 -- src/planned.rt:55:1
 returns-3 : tie.Need-returns-3
-returns-3 c = 
+returns-3 c =
     let s = c .before .before .before .before .before .before .before .before .before .before .before .before .before .before .before .before .before .before .before .before .before .before .before .before .before .before .before .before .before .before .before .before .before .before .before .before in
     let a = s .args in
     let h = (handed (a .index .now) (a .marks .now) (a .sizes .now) (a .rows .now) (a .excitation .now) (a .decoded .now) (a .state .now) (a .summary .now)) in
@@ -126,7 +126,7 @@ same-length-14 c = search needs
 
 -- src/planned.rt:55:1
 returns-4 : tie.Need-returns-4
-returns-4 c = 
+returns-4 c =
     let s = c .before .before .before .before .before .before .before .before .before .before .before .before .before .before .before .before .before .before .before .before .before .before .before .before .before .before .before .before .before .before .before .before .before .before .before .before .before .before .before .before .before .before .before in
     let a = s .args in
     let h = (handed (a .index .now) (a .marks .now) (a .sizes .now) (a .rows .now) (a .excitation .now) (a .decoded .now) (a .state .now) (a .summary .now)) in
