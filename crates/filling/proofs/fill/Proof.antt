@@ -1,6 +1,7 @@
 use native.Mathlib.Omega.{arith}
 use borrow.Author.Needs.{needs}
-use Rattle.filling.specs.Filling.{lent, lentPeriods}
+use Rattle.call.specs.Buffers.{lent}
+use Rattle.filling.specs.Filling.{lentPeriods}
 use Rattle.filling.proofs.FillLaws.{index-room, few-filled, can-join, joined-filled}
 use Rattle.filling.proofs.fill.Statement.{statement}
 use Rattle.filling.proofs.fill.Tie as tie
