@@ -21,26 +21,13 @@ use Rattle.lpc.specs.declared.FilterState.{FilterState}
 use Rattle.call.specs.declared.Settings.{Settings}
 use Rattle.call.specs.declared.Need.{Need}
 use Rattle.call.specs.declared.Summary.{Summary}
-use Rattle.call.specs.declared.Called.{Called}
 use Rattle.call.specs.declared.Called.the-variants.{Spoken, Refused}
 use Rattle.call.specs.declared.Planned.{Planned}
 use Rattle.call.specs.Buffers.{Buffers, needOf, filled, fits, checkRefusal, callRefusal, summaryOf, freshOf, answerBy, plannedOf, overAll, leftBy, buffersAfter}
-use Rattle.checking.specs.declared.Fit.{Fit}
-use Rattle.checking.specs.declared.Checked.{Checked}
-use Rattle.checking.specs.declared.Checked.the-variants.{Passed, Refused as Fails}
-use Rattle.checking.specs.Checks.{Passes, Checks}
 use Rattle.diphone_c.specs.Open.{answerOf, unlessRefused}
 use Rattle.diphone_c.specs.Numbers.{needBytes, summaryBytes}
 use Rattle.diphone_c.specs.State.{bytesOfState}
 use Rattle.diphone_c.specs.Plan.{shortReport, refusalOfNeed, needLeft, Handed, refusalOfPlan, handedBy, handedAfter}
-
--- ---- what the check answered, by the settings it was given
-
-pub checks-refused : (file sheet : List ℕ) {o p : Settings} {r : Checked} {c : Refusal} → p ≡ o → Checks file sheet p r → r ≡ Fails c → checkRefusal file sheet o ≡ some c
-checks-refused file sheet {o} {p} {r} {c} e k q = subst (λ (x : Settings). Checks file sheet x (Fails c)) e (subst (Checks file sheet p) q k)
-
-pub checks-passed : (file sheet : List ℕ) {o p : Settings} {r : Checked} {f : Fit} → p ≡ o → Checks file sheet p r → r ≡ Passed f → Passes file sheet o f
-checks-passed file sheet {o} {p} {r} {f} e k q = subst (λ (x : Settings). Checks file sheet x (Passed f)) e (subst (Checks file sheet p) q k)
 
 -- ---- diphone_need
 

@@ -1,5 +1,5 @@
 -- A checked call: refused by its buffers, or filled.
-use mathlib.Core.Path.{_≡_, refl, sym, ap, _∙_}
+use mathlib.Core.Path.{_≡_, refl, sym, ap, subst, _∙_}
 use mathlib.Core.Bool.{Bool, true, false}
 use mathlib.Core.List.{List}
 use mathlib.Core.Option.{Option, none, some}
@@ -23,7 +23,9 @@ use Rattle.call.specs.declared.Called.the-variants.{Spoken}
 use Rattle.call.specs.declared.Planned.{Planned}
 use Rattle.call.specs.Buffers.{Buffers, needOf, holds, lengthsOf, fits, filled, checkRefusal, callRefusal, summaryOf, freshOf, refusedBy, answerBy, plannedOf, overAll, buffersAfter}
 use Rattle.checking.specs.declared.Fit.{Fit}
-use Rattle.checking.specs.Checks.{Passes}
+use Rattle.checking.specs.declared.Checked.{Checked}
+use Rattle.checking.specs.declared.Checked.the-variants.{Passed, Refused as Fails}
+use Rattle.checking.specs.Checks.{Passes, Checks}
 use Rattle.filling.specs.Filling.{CanFill}
 use Rattle.planning.specs.Planning.{summaryBy}
 
@@ -37,6 +39,10 @@ module _ (file sheet : List ℕ) (o : Settings) (b : Buffers) (p : checkRefusal 
 
   pub whole-call : fits (voiceOf file) (sheetOf sheet) o b ≡ true → callRefusal file sheet o b ≡ none
   whole-call e = passed-by ∙ ap (λ (t : Bool). pick t none (some ShortBuffer)) e
+
+first-refused : (file sheet : List ℕ) (o : Settings) (b : Buffers) (c : Refusal) → checkRefusal file sheet o ≡ some c → callRefusal file sheet o b ≡ some c
+unfolding callRefusal
+first-refused file sheet o b c e = rw e
 
 module _ (file sheet : List ℕ) (o : Settings) (b : Buffers) where
   pub refused-planned : (r : Refusal) → callRefusal file sheet o b ≡ some r → plannedOf file sheet o b ≡ refusedBy r
@@ -106,3 +112,18 @@ module _ (file sheet : List ℕ) (o : Settings) (f : Fit) (h : Passes file sheet
   short-ends p after e x y =
       let n = short-call file sheet o b (h .passed) (fits-is ∙ e) in
       (x ∙ sym (refused-planned file sheet o b ShortBuffer n), y ∙ sym (refused-buffers file sheet o b ShortBuffer n))
+
+-- ---- what the check answered, by the settings it was given
+
+pub checks-refused : (file sheet : List ℕ) {o p : Settings} {r : Checked} {c : Refusal} → p ≡ o → Checks file sheet p r → r ≡ Fails c → checkRefusal file sheet o ≡ some c
+checks-refused file sheet {o} {p} {r} {c} e k q = subst (λ (x : Settings). Checks file sheet x (Fails c)) e (subst (Checks file sheet p) q k)
+
+pub checks-passed : (file sheet : List ℕ) {o p : Settings} {r : Checked} {f : Fit} → p ≡ o → Checks file sheet p r → r ≡ Passed f → Passes file sheet o f
+checks-passed file sheet {o} {p} {r} {f} e k q = subst (λ (x : Settings). Checks file sheet x (Passed f)) e (subst (Checks file sheet p) q k)
+
+-- a refused check
+pub refused-ends : (file sheet : List ℕ) (o : Settings) (b : Buffers) {r : Checked} {c : Refusal} (p : Planned) (after : Buffers) → Checks file sheet o r → r ≡ Fails c → p ≡ refusedBy c → after ≡ b
+    → (p ≡ plannedOf file sheet o b) × (after ≡ buffersAfter file sheet o b)
+refused-ends file sheet o b {r} {c} p after k q x y =
+    let n = first-refused file sheet o b c (checks-refused file sheet refl k q) in
+    (x ∙ sym (refused-planned file sheet o b c n), y ∙ sym (refused-buffers file sheet o b c n))

@@ -1,4 +1,5 @@
-use Rattle.diphone_c.proofs.PlannedLaws.{checks-refused, checks-passed, need-refused, need-passed}
+use Rattle.planning.proofs.PlanLaws.{checks-refused, checks-passed}
+use Rattle.diphone_c.proofs.PlannedLaws.{need-refused, need-passed}
 use borrow.Author.Needs.{needs}
 use Rattle.diphone_c.proofs.diphone_need.Statement.{statement}
 use Rattle.diphone_c.proofs.diphone_need.Tie as tie

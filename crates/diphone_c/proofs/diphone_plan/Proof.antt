@@ -1,6 +1,7 @@
+use Rattle.planning.proofs.PlanLaws.{checks-refused, checks-passed}
 use mathlib.Core.Path.{refl}
 use Rattle.diphone_c.specs.Plan.{handed}
-use Rattle.diphone_c.proofs.PlannedLaws.{checks-refused, checks-passed, by-settings, plan-refused, check-refused}
+use Rattle.diphone_c.proofs.PlannedLaws.{by-settings, plan-refused, check-refused}
 use borrow.Author.Needs.{needs}
 use Rattle.diphone_c.proofs.diphone_plan.Statement.{statement}
 use Rattle.diphone_c.proofs.diphone_plan.Tie as tie
