@@ -7,8 +7,6 @@ use Rattle.diphone_c.proofs.planned.plan_checked.Tie as tie
 use Rattle.diphone_c.proofs.planned.plan_checked.Reads as reads
 use Rattle.diphone_c.proofs.planned.plan_checked.Lts as lts
 use Rattle.diphone_c.proofs.planned.write_summary.Reads as write-summary-reads
-use Rattle.diphone_c.proofs.stub.plan_checked.Reads as plan-checked-reads
-use Rattle.diphone_c.proofs.stub.store.Reads as store-reads
 use Rattle.refusal.proofs.number.Reads as number-reads
 
 -- src/planned.rt:84:9
