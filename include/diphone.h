@@ -29,6 +29,11 @@ enum {
                                     more than 16,777,215 bytes */
     DIPHONE_BAD_INDEX = 7,       /* the index is cut short, empty, has a name that is not UTF-8 or
                                     stands twice, or an entry that ends past the frames */
+    DIPHONE_BAD_SHEET = 8,       /* the call sheet is malformed */
+    DIPHONE_NOT_FINITE = 9,      /* a float of the sheet is not finite */
+    DIPHONE_BAD_SLOPE = 10,      /* the slope between two targets is not finite as f32 */
+    DIPHONE_PAST_LIMIT = 11,     /* a pitch mark or a target end is above 16,777,215 */
+    DIPHONE_TOO_MANY_MARKS = 12, /* there are more than 65,536 pitch marks */
     DIPHONE_SHORT_BUFFER = 13,   /* a buffer is shorter than stated */
     DIPHONE_SHORT_SLICE = 14,    /* the sample slice is shorter than the next period */
     DIPHONE_BAD_STATE = 15       /* the filter state is impossible, or the rows end within the
@@ -55,12 +60,67 @@ uint32_t diphone_open(const uint8_t *DIPHONE_RESTRICT voice, size_t voice_len,
                       uint8_t *DIPHONE_RESTRICT index, size_t index_len,
                       uint8_t *DIPHONE_RESTRICT record, size_t record_len);
 
+/* Settings of a call. Every number is a setting. */
+enum {
+    DIPHONE_JOIN_NONE = 0,     /* no periods */
+    DIPHONE_JOIN_SIMPLE = 1,   /* each period as long as it is stored */
+    DIPHONE_JOIN_MODIFIED = 2, /* periods by the sheet's ends and targets; also any number above */
+    DIPHONE_FILTER_FIXED = 0,
+    DIPHONE_FILTER_FLOAT = 1   /* also any number above */
+};
+
+/* What the buffers of a call need: six numbers of 8 bytes each, for entries of the index, marks,
+ * periods, row values, bytes of the excitation and bytes of the decode buffer. */
+#define DIPHONE_NEED_BYTES 48
+
+/* Tells how long the buffers of a call must be. It makes the call's checks and writes nothing but
+ * need.
+ *
+ * Takes:   voice and sheet, the bytes of a voice file and of a call sheet; join, as above; fold, 0 or
+ *          not: with fold on `ah` counts as `aa`; need, DIPHONE_NEED_BYTES or more.
+ * Answers: 0; or 1 to 12 as diphone_plan does; or 13 if need is too short.
+ * Leaves:  on 0, in need the six numbers: an index of 8 bytes an entry, marks of 4, sizes of 4 bytes
+ *          a period, rows of 2 a row value, excitation and decoded of so many bytes are long enough,
+ *          and shorter ones are not; bytes past these as they were. */
+uint32_t diphone_need(const uint8_t *DIPHONE_RESTRICT voice, size_t voice_len,
+                      const uint8_t *DIPHONE_RESTRICT sheet, size_t sheet_len, uint32_t join,
+                      uint32_t fold, uint8_t *DIPHONE_RESTRICT need, size_t need_len);
+
+/* What a call gave: six numbers of 8 bytes each, for samples per second, periods, samples, marks,
+ * the order (row values a period) and entries of the index. */
+#define DIPHONE_SUMMARY_BYTES 48
+
 /* A filter state: numbers of 4 bytes for the filter (0 fixed, 1 float), the order, the ring place
  * and the bits of coeff_min and coeff_range; of 8 bytes for the period and the sample place; of 4
  * bytes for each of the history's 33 places (an i32 of the fixed filter, the bits of an f32 of the
  * float filter). The ring has order + 1 of these places, counted upwards; the ring place is the one
  * written next, the order in a fresh state. */
 #define DIPHONE_STATE_BYTES 168
+
+/* Makes a call: opens the voice, reads the sheet, makes the pitch marks and fills the buffers.
+ *
+ * Takes:   voice, sheet, join and fold as diphone_need does; filter, as above; index, marks, sizes,
+ *          rows, excitation and decoded, each as long as diphone_need tells or longer; state,
+ *          DIPHONE_STATE_BYTES or more; summary, DIPHONE_SUMMARY_BYTES or more.
+ * Answers: 0; or 1 to 7 for the voice file, then 8 or 9 for the sheet, whichever is met first in it,
+ *          then 11 for a target end, then 10, 12 or 11 for the marks in the order made, then 13 if a
+ *          buffer is too short. The simple join gives no 10, and 11 for its marks alone; join none
+ *          and a sheet of fewer than two segments give no 10, 11 or 12.
+ * Leaves:  on 0, in index the sorted index as diphone_open has it, in marks every pitch mark (4 bytes
+ *          each), in sizes the size of each period in samples (4 bytes), in rows its row of order
+ *          values as stored (2 bytes each), in excitation a mu-law byte for each sample, in decoded
+ *          the decoded periods, each over the one before, in state the fresh filter state, in summary the call's summary;
+ *          bytes past these as they were. */
+uint32_t diphone_plan(const uint8_t *DIPHONE_RESTRICT voice, size_t voice_len,
+                      const uint8_t *DIPHONE_RESTRICT sheet, size_t sheet_len, uint32_t join,
+                      uint32_t filter, uint32_t fold, uint8_t *DIPHONE_RESTRICT index,
+                      size_t index_len, uint8_t *DIPHONE_RESTRICT marks, size_t marks_len,
+                      uint8_t *DIPHONE_RESTRICT sizes, size_t sizes_len,
+                      uint8_t *DIPHONE_RESTRICT rows, size_t rows_len,
+                      uint8_t *DIPHONE_RESTRICT excitation, size_t excitation_len,
+                      uint8_t *DIPHONE_RESTRICT decoded, size_t decoded_len,
+                      uint8_t *DIPHONE_RESTRICT state, size_t state_len,
+                      uint8_t *DIPHONE_RESTRICT summary, size_t summary_len);
 
 /* What diphone_pull answers once all periods were given. */
 #define DIPHONE_DONE (-1)
