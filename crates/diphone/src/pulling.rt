@@ -21,7 +21,7 @@ fn has_rows(count: usize, order: usize, elements: usize) -> bool
 }
 
 // Whether a state is possible, and the next row is there where there is a next period.
-pub fn is_possible(state: FilterState, sizes: &[u8], rows: &[u8], excitation: &[u8]) -> bool
+pub(super) fn is_possible(state: FilterState, sizes: &[u8], rows: &[u8], excitation: &[u8]) -> bool
     ensures { λ r. ⌜ r ≡ possible state (lentOf (now (sizes .entry)) (now (rows .entry)) (now (excitation .entry))) ⌝ }
 {
     if state.order > 32 {
@@ -49,7 +49,7 @@ pub fn is_possible(state: FilterState, sizes: &[u8], rows: &[u8], excitation: &[
 }
 
 // How many samples the next period has: its size, cut to what is left of the excitation.
-pub fn next_len(state: FilterState, sizes: &[u8], excitation: &[u8]) -> usize
+pub(super) fn next_len(state: FilterState, sizes: &[u8], excitation: &[u8]) -> usize
     requires { ⌜ (4 * state .period + 4 ≤ length (now sizes)) × (state .«sample_place» ≤ length (now excitation)) ⌝ }
     ensures { λ r. ⌜ (r ≡ length (take (getD (elements 4 (now (sizes .entry))) (state .period) 0) (drop (state .«sample_place») (now (excitation .entry))))) × (state .«sample_place» + r ≤ length (now (excitation .entry))) ⌝ }
 {
@@ -59,7 +59,7 @@ pub fn next_len(state: FilterState, sizes: &[u8], excitation: &[u8]) -> usize
 }
 
 // The next period, of n samples: they go to the front of `samples`. Returns the state after it.
-pub fn resynthesise_next(
+pub(super) fn resynthesise_next(
     state: FilterState,
     n: usize,
     rows: &[u8],

@@ -35,7 +35,7 @@ fn filter_of(n: u32) -> ResynthType
 }
 
 // The settings of three numbers; fold is off for 0.
-pub fn settings_of(join: u32, filter: u32, fold: u32) -> Settings
+pub(super) fn settings_of(join: u32, filter: u32, fold: u32) -> Settings
     ensures { λ r. ⌜ r ≡ numbers.settingsOf join filter fold ⌝ }
 {
     Settings {
@@ -46,7 +46,7 @@ pub fn settings_of(join: u32, filter: u32, fold: u32) -> Settings
 }
 
 // Stores six numbers of eight bytes each at the front of a report.
-pub fn write_six(report: &mut [u8], a: u64, b: u64, c: u64, d: u64, e: u64, f: u64)
+pub(super) fn write_six(report: &mut [u8], a: u64, b: u64, c: u64, d: u64, e: u64, f: u64)
     requires { ⌜ 48 ≤ length (now report) ⌝ }
     ensures { λ _. ⌜ now (report .exit) ≡ over (flat (bytesOf 8) (a ∷ b ∷ c ∷ d ∷ e ∷ f ∷ [])) (now (report .entry)) ⌝ }
 {

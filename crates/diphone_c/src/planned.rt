@@ -16,7 +16,7 @@ use checking::Fit;
 use refusal::Refusal;
 
 // 13 for the report of what a call needs, which is filled otherwise.
-pub fn report_need(need: Need, report: &mut [u8]) -> u32
+pub(super) fn report_need(need: Need, report: &mut [u8]) -> u32
     ensures { λ r. ⌜ (r ≡ answerOf (plans.shortReport (length (now (report .entry))))) × (now (report .exit) ≡ unlessRefused (plans.shortReport (length (now (report .entry)))) (numbers.needBytes need) (now (report .entry))) ⌝ }
 {
     if report.len() < 48 {
@@ -52,7 +52,7 @@ fn write_summary(m: Summary, report: &mut [u8])
 
 // 13 for the buffers, the state and the summary of a call that its check passed; they are filled
 // otherwise.
-pub fn plan_checked(
+pub(super) fn plan_checked(
     voice: &[u8],
     sheet: &[u8],
     settings: Settings,

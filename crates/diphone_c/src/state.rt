@@ -52,7 +52,7 @@ fn load_head(buf: &[u8], filter: ResynthType) -> FilterState
 }
 
 // The state that bytes say.
-pub fn load(buf: &[u8]) -> FilterState
+pub(super) fn load(buf: &[u8]) -> FilterState
     requires { ⌜ 168 ≤ length (now buf) ⌝ }
     ensures { λ r. ⌜ r ≡ states.stateOf (now (buf .entry)) ⌝ }
 {
@@ -124,7 +124,7 @@ fn store_history(state: FilterState, buf: &mut [u8])
 }
 
 // The bytes of a state, to the front of a buffer.
-pub fn store(state: FilterState, buf: &mut [u8])
+pub(super) fn store(state: FilterState, buf: &mut [u8])
     requires { ⌜ 168 ≤ length (now buf) ⌝ }
     ensures { λ _. ⌜ now (buf .exit) ≡ over (states.bytesOfState state) (now (buf .entry)) ⌝ }
 {
