@@ -7,9 +7,12 @@ pub struct Args {
     pub from: u64,
     pub all: bool,
     pub out: Option<String>,
+    /// A file of a voice's G.721 codes.
+    pub codes: Option<String>,
 }
 
-/// Reads `--seed N`, `--count N`, `--from N`, `--all` and `--out FILE`.
+/// Reads `--seed N`, `--count N`, `--from N`, `--all`, `--out FILE` and
+/// `--codes FILE`.
 pub fn read(words: &[String]) -> Result<Args, String> {
     let mut args = Args {
         seed: 1,
@@ -17,6 +20,7 @@ pub fn read(words: &[String]) -> Result<Args, String> {
         from: 0,
         all: false,
         out: None,
+        codes: None,
     };
     let mut rest = words.iter();
     while let Some(word) = rest.next() {
@@ -25,7 +29,8 @@ pub fn read(words: &[String]) -> Result<Args, String> {
             "--count" => args.count = Some(number(word, rest.next())?),
             "--from" => args.from = number(word, rest.next())?,
             "--all" => args.all = true,
-            "--out" => args.out = Some(file(rest.next())?),
+            "--out" => args.out = Some(file(word, rest.next())?),
+            "--codes" => args.codes = Some(file(word, rest.next())?),
             other => return Err(format!("unknown option {other}")),
         }
     }
@@ -38,7 +43,7 @@ fn number(option: &str, word: Option<&String>) -> Result<u64, String> {
         .map_err(|_| format!("{option} needs a number, not {word}"))
 }
 
-fn file(word: Option<&String>) -> Result<String, String> {
-    let word = word.ok_or("--out needs a file")?;
+fn file(option: &str, word: Option<&String>) -> Result<String, String> {
+    let word = word.ok_or_else(|| format!("{option} needs a file"))?;
     Ok(word.clone())
 }

@@ -9,6 +9,7 @@ use crate::rng::Rng;
 use crate::speech::Speech;
 #[cfg(feature = "probe_state")]
 use crate::states;
+use crate::voicecodes;
 use std::time::{Duration, Instant};
 
 /// Codes in a run that is not told otherwise.
@@ -31,6 +32,9 @@ const PASSES: usize = 3;
 const BATCH: u64 = 36;
 
 pub fn run(args: &Args) -> bool {
+    if let Some(file) = &args.codes {
+        return voicecodes::run(file, args.count);
+    }
     let count = args.count.unwrap_or(COUNT).max(1);
     println!("oracle codecs: seed {}, count {count}", args.seed);
     let mut agreed = bytes_and_samples();

@@ -47,6 +47,8 @@ mod speech;
 mod statements;
 #[cfg(feature = "probe_state")]
 mod states;
+#[cfg(feature = "probe")]
+mod voicecodes;
 mod voicefile;
 #[cfg(feature = "probe_take")]
 mod windows;
@@ -58,6 +60,7 @@ const USAGE: &str = "usage:
   oracle statements [--seed N] [--from N] [--count N] --out FILE
   oracle floats [--seed N] [--count N] [--all]
   oracle codecs [--seed N] [--count N]
+  oracle codecs --codes FILE [--count N]
   oracle filters [--seed N] [--count N]
   oracle openings [--seed N] [--from N] [--count N]
   oracle marks [--seed N] [--from N] [--count N]

@@ -96,8 +96,7 @@ impl AdpcmState {
         let dqs = self.dq;
         let zeros = adpcm_predict::sezi(b, dqs);
         let all = adpcm_predict::sei(zeros, self.a1, self.sr1, self.a2, self.sr2);
-        let al = adpcm_scale::lima(self.ap);
-        let y = adpcm_scale::mix(al, self.yu, self.yl);
+        let y = adpcm_scale::scale_of(self.ap, self.yu, self.yl);
         let dq = adpcm_scale::dq_of(code, y);
         let sr = adpcm_predict::addb(dq, all / 2);
         let dqsez = adpcm_predict::addb(dq, zeros / 2);

@@ -171,14 +171,16 @@ fn upa2(pks1: u16, pks2: u16, sigpk: u16, a1: u16, a2: u16) -> u16
     )
 }
 
-// LIMC: the second coefficient, limited.
+// LIMC: the second coefficient, limited. 32768 more puts the negative ones below the others, so
+// that no test is of the sign alone, which changes often.
 fn limc(a2t: u16) -> u16
     ensures { λ r. ⌜ r ≡ block.limc a2t ⌝ }
 {
-    if a2t < 32768 {
-        if 12288 <= a2t { 12288 } else { a2t }
+    let place = ((a2t as u32) + 32768) % 65536;
+    if place < 20480 {
+        53248
     } else {
-        if a2t <= 53248 { 53248 } else { a2t }
+        if 45056 < place { 12288 } else { a2t }
     }
 }
 
@@ -242,14 +244,14 @@ fn thr2(yl: u32) -> u32
     }
 }
 
-// TRANS: 1 on a transition.
+// TRANS: 1 on a transition. The threshold is worked out only after a tone, which is seldom.
 pub fn trans(td: u16, yl: u32, dq: u16) -> u16
     requires { ⌜ yl < 524288 ⌝ }
     ensures { λ r. ⌜ r ≡ block.trans td yl dq ⌝ }
 {
-    let thr = thr2(yl);
-    let dqthr = (thr + thr / 2) / 2;
     if td == 1 {
+        let thr = thr2(yl);
+        let dqthr = (thr + thr / 2) / 2;
         if dqthr < (dq as u32) % 32768 { 1 } else { 0 }
     } else {
         0

@@ -1,2 +1,2 @@
--- Laws about the tables.
+-- Laws about the tables and the scale.
 pub mod ScaleLaws

@@ -126,7 +126,7 @@ fn prod(dif: u32, al: u32) -> u32
 }
 
 // MIX: the scale between the slow and the fast factor.
-pub fn mix(al: u32, yu: u16, yl: u32) -> u16
+fn mix(al: u32, yu: u16, yl: u32) -> u16
     requires { ⌜ (al ≤ 64) × ((yu < 8192) × (yl < 524288)) ⌝ }
     ensures { λ r. ⌜ (r ≡ block.mix al yu yl) × (r < 8192) ⌝ }
 {
@@ -138,6 +138,22 @@ pub fn mix(al: u32, yu: u16, yl: u32) -> u16
         let below = prod((16384 - dif) % 8192, al);
         ((slow + (16384 - below) % 16384) % 8192) as u16
     }
+}
+
+// LIMA: the speed control, limited.
+fn lima(ap: u16) -> u32
+    ensures { λ r. ⌜ (r ≡ block.lima ap) × (r ≤ 64) ⌝ }
+{
+    let speed = ap as u32;
+    if speed < 256 { speed / 4 } else { 64 }
+}
+
+// The scale Y. At the fastest speed AL is 64, and MIX gives the fast factor.
+pub fn scale_of(ap: u16, yu: u16, yl: u32) -> u16
+    requires { ⌜ (yu < 8192) × (yl < 524288) ⌝ }
+    ensures { λ r. ⌜ (r ≡ block.mix (block.lima ap) yu yl) × (r < 8192) ⌝ }
+{
+    if 256 <= ap { yu } else { mix(lima(ap), yu, yl) }
 }
 
 // ---- the speed control
@@ -216,14 +232,6 @@ fn triga(tr: u16, app: u16) -> u16
     ensures { λ r. ⌜ (r ≡ block.triga tr app) × (r < 1024) ⌝ }
 {
     if tr == 0 { app } else { 256 }
-}
-
-// LIMA: the speed control, limited.
-pub fn lima(ap: u16) -> u32
-    ensures { λ r. ⌜ (r ≡ block.lima ap) × (r ≤ 64) ⌝ }
-{
-    let speed = ap as u32;
-    if speed < 256 { speed / 4 } else { 64 }
 }
 
 // The speed control after a code.

@@ -12,11 +12,11 @@ add-dqthr c = search needs
 
 returns : tie.Need-returns
 unfolding trans
-returns c = rw (eq-eqb _ _ (c .before .if1 .taken), ← c .before .before .thr2 .ensures .0, lt-ltb _ _ (c .if2 .taken))
+returns c = rw (eq-eqb _ _ (c .before .before .if1 .taken), ← c .before .thr2 .ensures .0, lt-ltb _ _ (c .if2 .taken))
 
 returns-2 : tie.Need-returns-2
 unfolding trans
-returns-2 c = rw (eq-eqb _ _ (c .before .if1 .taken), ← c .before .before .thr2 .ensures .0, le-ltb _ _ (c .if2 .left))
+returns-2 c = rw (eq-eqb _ _ (c .before .before .if1 .taken), ← c .before .thr2 .ensures .0, le-ltb _ _ (c .if2 .left))
 
 returns-3 : tie.Need-returns-3
 unfolding trans

@@ -10,11 +10,8 @@ sezi-requires c κs = search needs
 sei-requires : tie.Need-sei-requires
 sei-requires c κs = search needs
 
-lima-requires : tie.Need-lima-requires
-lima-requires c κs = search needs
-
-mix-requires : tie.Need-mix-requires
-mix-requires c κs = search needs
+scale-of-requires : tie.Need-scale-of-requires
+scale-of-requires c κs = search needs
 
 dq-of-requires : tie.Need-dq-of-requires
 dq-of-requires c κs = search needs
@@ -40,10 +37,9 @@ returns c = (
     c .before .before .addb2 .ensures,
     c .before .before .before .addb .ensures,
     c .before .before .before .before .dq-of .ensures,
-    c .before .before .before .before .before .mix .ensures .0,
-    c .before .before .before .before .before .before .lima .ensures .0,
-    c .before .before .before .before .before .before .before .sei .ensures .0,
-    c .before .before .before .before .before .before .before .before .sezi .ensures .0,
+    c .before .before .before .before .before .scale-of .ensures .0,
+    c .before .before .before .before .before .before .sei .ensures .0,
+    c .before .before .before .before .before .before .before .sezi .ensures .0,
   ),
   record { y = omega arith; pk0 = omega arith },
 )
@@ -54,8 +50,7 @@ signals-of-spec =
     (tie.spec
     sezi-requires
     sei-requires
-    lima-requires
-    mix-requires
+    scale-of-requires
     dq-of-requires
     addb-requires
     addb-requires-2

@@ -1,0 +1,2 @@
+-- Laws about the blocks.
+pub mod PredictLaws
