@@ -53,8 +53,11 @@ fn bench(name: &str, files: Files, rounds: usize, only: Option<&str>) {
         println!("  {label}: {samples} samples");
         show(&calls, rounds, samples);
     }
+    if only.is_some() {
+        return;
+    }
     let longest = sheets.iter().max_by_key(|sheet| sheet.segments.len());
-    for settings in settings(only).into_iter().filter(|s| s.filter == Filter::Fixed) {
+    for settings in settings(None).into_iter().filter(|s| s.filter == Filter::Fixed) {
         println!("  {}, a sheet repeated; µs a call, best: here, the Rust", label(settings));
         for times in REPEATED {
             grown(voice, longest.expect("a sheet"), times, settings, rounds);
