@@ -3,7 +3,9 @@
  * Every function takes numbers and byte buffers alone, ends for every input, allocates nothing and
  * keeps nothing between calls. A buffer is a pointer and a number of bytes; with 0 bytes the pointer
  * may be null. No alignment is asked for. Buffers must not overlap. Numbers of several bytes are
- * little-endian. A function that refuses leaves every buffer as it was.
+ * little-endian; bytes past the last whole element of a buffer do not count. A function that refuses
+ * leaves every buffer as it was. The processor must round to nearest and keep subnormal floats, as it
+ * does unless a program sets it otherwise (a program linked with -ffast-math does).
  */
 #ifndef DIPHONE_H
 #define DIPHONE_H
@@ -131,11 +133,12 @@ uint32_t diphone_plan(const uint8_t *DIPHONE_RESTRICT voice, size_t voice_len,
  *          4 bytes for each period, 2 bytes for each of its order row values, a byte for each
  *          sample; samples, 2 bytes for each sample of the next period or more.
  * Answers: how many samples it gave (0 or more: an empty period gives 0, so pull until the answer is
- *          negative); or DIPHONE_DONE if all were given before; or -14 if samples is too short; or
- *          -15 if the state is impossible: shorter than DIPHONE_STATE_BYTES, of another filter, with
- *          an order above 32, a ring place above the order, a period or sample place past the sizes
- *          or the excitation, or a scale outside -16 to 16, or if the rows end within the next one.
- *          It looks for -15, then for DIPHONE_DONE, then for -14.
+ *          DIPHONE_DONE); or DIPHONE_DONE if all were given before; or -14 if samples is too short,
+ *          and the same pull may be made again with a longer slice; or -15 if the state is
+ *          impossible: shorter than DIPHONE_STATE_BYTES, of another filter, with an order above 32, a
+ *          ring place above the order, a period or sample place past the sizes or the excitation, or
+ *          a scale outside -16 to 16, or if the rows end within the next one. It looks for -15, then
+ *          for DIPHONE_DONE, then for -14.
  * Leaves:  where it gives a period, at the front of samples its samples (16 bits each, in two's
  *          complement), and in state the state after it (a NaN of the float history as 0x7FC00000);
  *          bytes past these as they were. Else all as it was. */

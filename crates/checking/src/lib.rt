@@ -2,10 +2,12 @@
 ghost use mathlib.Core.Path.{_≡_};
 ghost use mathlib.Core.Bool.{Bool, false};
 ghost use Prim.Native.Nat.{_≤_, _<_};
+ghost use lib.ListN.{length};
 ghost use Rattle.voice.specs.Voice.{Voice, voiceOf};
 ghost use Rattle.voice.specs.Opening.{IsOpen};
 ghost use Rattle.sheet.specs.Sheet.{sheetOf};
 ghost use Rattle.sheet.specs.Places.{answerIn, sheetPlaces};
+ghost use Rattle.units.specs.Asked.{Searchable};
 ghost use Rattle.units.specs.Selecting.{folded};
 ghost use Rattle.units.specs.Units.{unitsOf};
 ghost use Rattle.call.specs.Call.{simplePlan, modifiedPlan, emptyPlan, planBy, planOf};
@@ -52,9 +54,9 @@ enum Joined {
 }
 
 // Makes the marks of the simple join, unit by unit.
-fn check_natural(file: &[u8], sheet: &[u8], by: Selection) -> Joined
+fn check_natural(file: &[u8], index: &[u8], sheet: &[u8], by: Selection) -> Joined
     requires { ⌜
-        (IsOpen (now file) (by .voice) × (by .sorted ≡ false)) ×
+        Searchable (now file) (now index) by ×
         ((answerIn (sheetPlaces (now sheet)) ≡ SheetAnswer.Read (by .places)) × (0 < by .places .segments .count))
         ⌝ }
     ensures { λ r.
@@ -65,12 +67,11 @@ fn check_natural(file: &[u8], sheet: &[u8], by: Selection) -> Joined
         ⌝ }
 {
     let places = by.places;
-    let none = [0u8; 1];
     let mut walk = units::step::first_unit(sheet, places);
     let mut place = 0;
     let mut left = 65536;
     while units::step::has_unit(walk) {
-        let step = units::step::next_unit(file, &none, sheet, by, walk);
+        let step = units::step::next_unit(file, index, sheet, by, walk);
         let unit = step.unit;
         match marks::natural::check_unit_marks(
             file,
@@ -94,6 +95,43 @@ fn check_natural(file: &[u8], sheet: &[u8], by: Selection) -> Joined
         taken: count,
         last: place,
     })
+}
+
+// Room for a sorted index of 4,096 entries.
+fn blank_index() -> [u8; 32768]
+    ensures { λ r. ⌜ length r ≡ 32768 ⌝ }
+{
+    [0; 32768]
+}
+
+// Makes the marks of the simple join. The call's index buffer is not filled yet; the units of a voice
+// with at most 4,096 entries are found by a sorted index of the check's own.
+fn check_simple(file: &[u8], sheet: &[u8], by: Selection) -> Joined
+    requires { ⌜
+        (IsOpen (now file) (by .voice) × (by .sorted ≡ false)) ×
+        ((answerIn (sheetPlaces (now sheet)) ≡ SheetAnswer.Read (by .places)) × (0 < by .places .segments .count))
+        ⌝ }
+    ensures { λ r.
+        ⌜
+        Joins
+        (simplePlan (voiceOf (now (file .entry))) (unitsOf (voiceOf (now (file .entry))) (folded (by .fold) (sheetOf (now (sheet .entry)) .segments))))
+        r
+        ⌝ }
+{
+    let voice = by.voice;
+    let mut index = blank_index();
+    if 4096 < voice.count {
+        return check_natural(file, &index, sheet, by);
+    }
+    opening::fill_index(file, voice, &mut index);
+    let places = by.places;
+    let sorted = Selection {
+        voice: voice,
+        sorted: true,
+        places: places,
+        fold: by.fold,
+    };
+    check_natural(file, &index, sheet, sorted)
 }
 
 // Makes the target ends of the modified join, then its pitch marks, at a voice's rate.
@@ -147,7 +185,7 @@ fn check_join(file: &[u8], sheet: &[u8], by: Selection, join: JoinType) -> Joine
 {
     match join {
         JoinType::None => no_marks(),
-        JoinType::Simple => check_natural(file, sheet, by),
+        JoinType::Simple => check_simple(file, sheet, by),
         JoinType::ModifiedLpc => check_modified(sheet, by.places, by.voice.header.rate),
     }
 }

@@ -28,13 +28,16 @@ pub fn plan(
     ensures { λ r.
         ⌜
         r ≡ calls.plannedOf (now (voice .entry)) (now (sheet .entry)) settings
-        (calls.lent (now (index .entry)) (now (marks .entry)) (now (sizes .entry)) (now (rows .entry)) (now (excitation .entry)) (now (decoded .entry)))
+        (calls.lent (now (index .entry)) (now (marks .entry)) (now (sizes .entry)) (now (rows .entry))
+        (now (excitation .entry)) (now (decoded .entry)))
         ⌝ }
     ensures { λ _.
         ⌜
-        calls.lent (now (index .exit)) (now (marks .exit)) (now (sizes .exit)) (now (rows .exit)) (now (excitation .exit)) (now (decoded .exit)) ≡
+        calls.lent (now (index .exit)) (now (marks .exit)) (now (sizes .exit)) (now (rows .exit))
+        (now (excitation .exit)) (now (decoded .exit)) ≡
         calls.buffersAfter (now (voice .entry)) (now (sheet .entry)) settings
-        (calls.lent (now (index .entry)) (now (marks .entry)) (now (sizes .entry)) (now (rows .entry)) (now (excitation .entry)) (now (decoded .entry)))
+        (calls.lent (now (index .entry)) (now (marks .entry)) (now (sizes .entry)) (now (rows .entry))
+        (now (excitation .entry)) (now (decoded .entry)))
         ⌝ }
 {
     match checking::check(voice, sheet, settings) {
@@ -63,8 +66,17 @@ pub fn pull(
     excitation: &[u8],
     samples: &mut [u8],
 ) -> Pulled
-    ensures { λ r. ⌜ r ≡ pullOf state (lentOf (now (sizes .entry)) (now (rows .entry)) (now (excitation .entry))) (now (samples .entry)) .pulled ⌝ }
-    ensures { λ _. ⌜ now (samples .exit) ≡ pullOf state (lentOf (now (sizes .entry)) (now (rows .entry)) (now (excitation .entry))) (now (samples .entry)) .slice ⌝ }
+    ensures { λ r.
+        ⌜
+        r ≡ pullOf state (lentOf (now (sizes .entry)) (now (rows .entry)) (now (excitation .entry)))
+        (now (samples .entry)) .pulled
+        ⌝ }
+    ensures { λ _.
+        ⌜
+        now (samples .exit) ≡
+        pullOf state (lentOf (now (sizes .entry)) (now (rows .entry)) (now (excitation .entry)))
+        (now (samples .entry)) .slice
+        ⌝ }
 {
     if !pulling::is_possible(state, sizes, rows, excitation) {
         return Pulled {

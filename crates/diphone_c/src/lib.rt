@@ -81,8 +81,17 @@ pub extern "C" fn diphone_need(
     fold: u32,
     need: &mut [u8],
 ) -> u32
-    ensures { λ r. ⌜ r ≡ opens.answerOf (plans.refusalOfNeed (now (voice .entry)) (now (sheet .entry)) (numbers.settingsOf join 0 fold) (length (now (need .entry)))) ⌝ }
-    ensures { λ _. ⌜ now (need .exit) ≡ plans.needLeft (now (voice .entry)) (now (sheet .entry)) (numbers.settingsOf join 0 fold) (now (need .entry)) ⌝ }
+    ensures { λ r.
+        ⌜
+        r ≡ opens.answerOf
+        (plans.refusalOfNeed (now (voice .entry)) (now (sheet .entry)) (numbers.settingsOf join 0 fold)
+        (length (now (need .entry))))
+        ⌝ }
+    ensures { λ _.
+        ⌜
+        now (need .exit) ≡
+        plans.needLeft (now (voice .entry)) (now (sheet .entry)) (numbers.settingsOf join 0 fold) (now (need .entry))
+        ⌝ }
 {
     match checking::check(voice, sheet, numbers::settings_of(join, 0, fold)) {
         Checked::Refused(cause) => refusal::number(cause),
@@ -111,13 +120,16 @@ pub extern "C" fn diphone_plan(
         ⌜
         r ≡ opens.answerOf
         (plans.refusalOfPlan (now (voice .entry)) (now (sheet .entry)) (numbers.settingsOf join filter fold)
-        (plans.handed (now (index .entry)) (now (marks .entry)) (now (sizes .entry)) (now (rows .entry)) (now (excitation .entry)) (now (decoded .entry)) (now (state .entry)) (now (summary .entry))))
+        (plans.handed (now (index .entry)) (now (marks .entry)) (now (sizes .entry)) (now (rows .entry))
+        (now (excitation .entry)) (now (decoded .entry)) (now (state .entry)) (now (summary .entry))))
         ⌝ }
     ensures { λ _.
         ⌜
-        plans.handed (now (index .exit)) (now (marks .exit)) (now (sizes .exit)) (now (rows .exit)) (now (excitation .exit)) (now (decoded .exit)) (now (state .exit)) (now (summary .exit)) ≡
+        plans.handed (now (index .exit)) (now (marks .exit)) (now (sizes .exit)) (now (rows .exit))
+        (now (excitation .exit)) (now (decoded .exit)) (now (state .exit)) (now (summary .exit)) ≡
         plans.handedAfter (now (voice .entry)) (now (sheet .entry)) (numbers.settingsOf join filter fold)
-        (plans.handed (now (index .entry)) (now (marks .entry)) (now (sizes .entry)) (now (rows .entry)) (now (excitation .entry)) (now (decoded .entry)) (now (state .entry)) (now (summary .entry)))
+        (plans.handed (now (index .entry)) (now (marks .entry)) (now (sizes .entry)) (now (rows .entry))
+        (now (excitation .entry)) (now (decoded .entry)) (now (state .entry)) (now (summary .entry)))
         ⌝ }
 {
     let settings = numbers::settings_of(join, filter, fold);
@@ -156,9 +168,24 @@ pub extern "C" fn diphone_pull(
     excitation: &[u8],
     samples: &mut [u8],
 ) -> i64
-    ensures { λ r. ⌜ r ≡ pulls.numberFor (now (state .entry)) (lentOf (now (sizes .entry)) (now (rows .entry)) (now (excitation .entry))) (now (samples .entry)) ⌝ }
-    ensures { λ _. ⌜ now (state .exit) ≡ pulls.stateLeft (now (state .entry)) (lentOf (now (sizes .entry)) (now (rows .entry)) (now (excitation .entry))) (now (samples .entry)) ⌝ }
-    ensures { λ _. ⌜ now (samples .exit) ≡ pulls.sliceLeft (now (state .entry)) (lentOf (now (sizes .entry)) (now (rows .entry)) (now (excitation .entry))) (now (samples .entry)) ⌝ }
+    ensures { λ r.
+        ⌜
+        r ≡
+        pulls.numberFor (now (state .entry)) (lentOf (now (sizes .entry)) (now (rows .entry)) (now (excitation .entry)))
+        (now (samples .entry))
+        ⌝ }
+    ensures { λ _.
+        ⌜
+        now (state .exit) ≡
+        pulls.stateLeft (now (state .entry)) (lentOf (now (sizes .entry)) (now (rows .entry)) (now (excitation .entry)))
+        (now (samples .entry))
+        ⌝ }
+    ensures { λ _.
+        ⌜
+        now (samples .exit) ≡
+        pulls.sliceLeft (now (state .entry)) (lentOf (now (sizes .entry)) (now (rows .entry)) (now (excitation .entry)))
+        (now (samples .entry))
+        ⌝ }
 {
     if state.len() < 168 {
         return refused(Refusal::BadState);

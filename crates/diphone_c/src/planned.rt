@@ -17,7 +17,12 @@ use refusal::Refusal;
 
 // 13 for the report of what a call needs, which is filled otherwise.
 pub(super) fn report_need(need: Need, report: &mut [u8]) -> u32
-    ensures { λ r. ⌜ (r ≡ answerOf (plans.shortReport (length (now (report .entry))))) × (now (report .exit) ≡ unlessRefused (plans.shortReport (length (now (report .entry)))) (numbers.needBytes need) (now (report .entry))) ⌝ }
+    ensures { λ r.
+        ⌜
+        (r ≡ answerOf (plans.shortReport (length (now (report .entry))))) ×
+        (now (report .exit) ≡
+        unlessRefused (plans.shortReport (length (now (report .entry)))) (numbers.needBytes need) (now (report .entry)))
+        ⌝ }
 {
     if report.len() < 48 {
         return refusal::number(Refusal::ShortBuffer);
@@ -71,13 +76,16 @@ pub(super) fn plan_checked(
         ⌜
         r ≡ answerOf
         (plans.refusalOfPlan (now (voice .entry)) (now (sheet .entry)) settings
-        (plans.handed (now (index .entry)) (now (marks .entry)) (now (sizes .entry)) (now (rows .entry)) (now (excitation .entry)) (now (decoded .entry)) (now (state .entry)) (now (summary .entry))))
+        (plans.handed (now (index .entry)) (now (marks .entry)) (now (sizes .entry)) (now (rows .entry))
+        (now (excitation .entry)) (now (decoded .entry)) (now (state .entry)) (now (summary .entry))))
         ⌝ }
     ensures { λ _.
         ⌜
-        plans.handed (now (index .exit)) (now (marks .exit)) (now (sizes .exit)) (now (rows .exit)) (now (excitation .exit)) (now (decoded .exit)) (now (state .exit)) (now (summary .exit)) ≡
+        plans.handed (now (index .exit)) (now (marks .exit)) (now (sizes .exit)) (now (rows .exit))
+        (now (excitation .exit)) (now (decoded .exit)) (now (state .exit)) (now (summary .exit)) ≡
         plans.handedAfter (now (voice .entry)) (now (sheet .entry)) settings
-        (plans.handed (now (index .entry)) (now (marks .entry)) (now (sizes .entry)) (now (rows .entry)) (now (excitation .entry)) (now (decoded .entry)) (now (state .entry)) (now (summary .entry)))
+        (plans.handed (now (index .entry)) (now (marks .entry)) (now (sizes .entry)) (now (rows .entry))
+        (now (excitation .entry)) (now (decoded .entry)) (now (state .entry)) (now (summary .entry)))
         ⌝ }
 {
     if state.len() < 168 {

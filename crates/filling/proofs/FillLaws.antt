@@ -14,9 +14,6 @@ use Rattle.container.specs.Sections.{bytesAt}
 use Rattle.voice.specs.declared.DiphoneVoice.{DiphoneVoice}
 use Rattle.voice.specs.Voice.{Voice, voiceOf}
 use Rattle.voice.specs.Opening.{IsOpen, indexFits, indexBytes}
-use Rattle.index.specs.Index.{Filled}
-use Rattle.index.proofs.FilledLaws.{filled-by}
-use Rattle.opening.proofs.IndexLaws.{able, filled-bytes}
 use Rattle.sheet.specs.declared.Places.{Places}
 use Rattle.sheet.specs.declared.SheetAnswer.the-variants.{Read}
 use Rattle.sheet.specs.Sheet.{Sheet, segment, sheetOf}
@@ -25,6 +22,7 @@ use Rattle.sheet.proofs.ReadLaws.{sheet-ahead}
 use Rattle.sheet.proofs.WalkLaws.{ahead-length}
 use Rattle.units.specs.declared.Selection.{Selection}
 use Rattle.units.specs.Selecting.{folded}
+use Rattle.units.proofs.AskedLaws.{index-filled}
 use Rattle.excitation.specs.Taken.{Period, taken, rowsOf, excitationOf}
 use Rattle.excitation.proofs.SizedLaws.{Sized, taken-sized}
 use Rattle.call.specs.declared.Settings.{Settings}
@@ -62,14 +60,6 @@ filled-by-parts : (v : Voice) (s : Sheet) (o : Settings) (old : Buffers) (i m : 
     → lent i m (b .sizes) (b .rows) (b .excitation) (b .decoded) ≡ overAll (filled v s o) old
 unfolding filled
 filled-by-parts v s o old i m b p q r = same-lent p q (r .sizes) (r .rows) (r .excitation) (r .decoded)
-
--- ---- the index
-
-module _ (file : List ℕ) (d : DiphoneVoice) (o : IsOpen file d) (old index : List ℕ) (f : indexFits (voiceOf file) (length old) ≡ true) (e : index ≡ over (indexBytes (voiceOf file)) old) where
-  pub index-filled : length file < 2 ^ 63 → Filled (bytesAt file (d .entries)) (d .count) (d .entries .at) index
-  index-filled h =
-      filled-by (bytesAt file (d .entries)) (d .count) (d .entries .at) old index (able file d o (bytesAt file (d .entries)) (length old) refl f h)
-      (e ∙ ap (λ (l : List ℕ). over l old) (sym (filled-bytes file d o (bytesAt file (d .entries)) refl)))
 
 -- ---- a call that was checked
 

@@ -83,9 +83,26 @@ fn plan_filled(
     excitation: &mut [u8],
     decoded: &mut [u8],
 ) -> Planned
-    requires { ⌜ Passes (now file) (now sheet) settings fit × (calls.fits (voiceOf (now file)) (sheetOf (now sheet)) settings (calls.lent (now index) (now marks) (now sizes) (now rows) (now excitation) (now decoded)) ≡ true) ⌝ }
-    ensures { λ r. ⌜ r ≡ calls.plannedOf (now (file .entry)) (now (sheet .entry)) settings (calls.lent (now (index .entry)) (now (marks .entry)) (now (sizes .entry)) (now (rows .entry)) (now (excitation .entry)) (now (decoded .entry))) ⌝ }
-    ensures { λ _. ⌜ calls.lent (now (index .exit)) (now (marks .exit)) (now (sizes .exit)) (now (rows .exit)) (now (excitation .exit)) (now (decoded .exit)) ≡ calls.buffersAfter (now (file .entry)) (now (sheet .entry)) settings (calls.lent (now (index .entry)) (now (marks .entry)) (now (sizes .entry)) (now (rows .entry)) (now (excitation .entry)) (now (decoded .entry))) ⌝ }
+    requires { ⌜
+        Passes (now file) (now sheet) settings fit ×
+        (calls.fits (voiceOf (now file)) (sheetOf (now sheet)) settings
+        (calls.lent (now index) (now marks) (now sizes) (now rows) (now excitation) (now decoded)) ≡
+        true)
+        ⌝ }
+    ensures { λ r.
+        ⌜
+        r ≡ calls.plannedOf (now (file .entry)) (now (sheet .entry)) settings
+        (calls.lent (now (index .entry)) (now (marks .entry)) (now (sizes .entry)) (now (rows .entry))
+        (now (excitation .entry)) (now (decoded .entry)))
+        ⌝ }
+    ensures { λ _.
+        ⌜
+        calls.lent (now (index .exit)) (now (marks .exit)) (now (sizes .exit)) (now (rows .exit))
+        (now (excitation .exit)) (now (decoded .exit)) ≡
+        calls.buffersAfter (now (file .entry)) (now (sheet .entry)) settings
+        (calls.lent (now (index .entry)) (now (marks .entry)) (now (sizes .entry)) (now (rows .entry))
+        (now (excitation .entry)) (now (decoded .entry)))
+        ⌝ }
 {
     filling::fill(
         file,
@@ -129,8 +146,20 @@ pub fn plan_checked(
     decoded: &mut [u8],
 ) -> Planned
     requires { ⌜ Passes (now file) (now sheet) settings fit ⌝ }
-    ensures { λ r. ⌜ r ≡ calls.plannedOf (now (file .entry)) (now (sheet .entry)) settings (calls.lent (now (index .entry)) (now (marks .entry)) (now (sizes .entry)) (now (rows .entry)) (now (excitation .entry)) (now (decoded .entry))) ⌝ }
-    ensures { λ _. ⌜ calls.lent (now (index .exit)) (now (marks .exit)) (now (sizes .exit)) (now (rows .exit)) (now (excitation .exit)) (now (decoded .exit)) ≡ calls.buffersAfter (now (file .entry)) (now (sheet .entry)) settings (calls.lent (now (index .entry)) (now (marks .entry)) (now (sizes .entry)) (now (rows .entry)) (now (excitation .entry)) (now (decoded .entry))) ⌝ }
+    ensures { λ r.
+        ⌜
+        r ≡ calls.plannedOf (now (file .entry)) (now (sheet .entry)) settings
+        (calls.lent (now (index .entry)) (now (marks .entry)) (now (sizes .entry)) (now (rows .entry))
+        (now (excitation .entry)) (now (decoded .entry)))
+        ⌝ }
+    ensures { λ _.
+        ⌜
+        calls.lent (now (index .exit)) (now (marks .exit)) (now (sizes .exit)) (now (rows .exit))
+        (now (excitation .exit)) (now (decoded .exit)) ≡
+        calls.buffersAfter (now (file .entry)) (now (sheet .entry)) settings
+        (calls.lent (now (index .entry)) (now (marks .entry)) (now (sizes .entry)) (now (rows .entry))
+        (now (excitation .entry)) (now (decoded .entry)))
+        ⌝ }
 {
     let lengths = Lengths {
         index: index.len(),

@@ -5,3 +5,4 @@ pub mod SelectLaws
 pub mod WalkLaws
 pub mod StepLaws
 pub mod EndLaws
+pub mod AskedLaws

@@ -15,8 +15,8 @@ no-marks-requires c κs = search needs
 enum-told-2 : tie.Need-enum-told-2
 enum-told-2 c = search needs
 
-check-natural-requires : tie.Need-check-natural-requires
-check-natural-requires c κs = search needs
+check-simple-requires : tie.Need-check-simple-requires
+check-simple-requires c κs = search needs
 
 enum-told-3 : tie.Need-enum-told-3
 enum-told-3 c = search needs
@@ -28,7 +28,7 @@ returns : tie.Need-returns
 returns c = let s = c .before .before .before .before .before .args in by-none (s .join) (s .file .now) (s .by .fold) (s .sheet .now) (c .no-marks .result) (c .before .enum-told .given .1) (c .no-marks .ensures)
 
 returns-2 : tie.Need-returns-2
-returns-2 c = let s = c .before .before .before .before .before .args in by-simple (s .join) (s .file .now) (s .by .fold) (s .sheet .now) (c .check-natural .result) (c .before .enum-told2 .given .1) (c .check-natural .ensures)
+returns-2 c = let s = c .before .before .before .before .before .args in by-simple (s .join) (s .file .now) (s .by .fold) (s .sheet .now) (c .check-simple .result) (c .before .enum-told2 .given .1) (c .check-simple .ensures)
 
 returns-3 : tie.Need-returns-3
 returns-3 c =
@@ -43,7 +43,7 @@ check-join-spec =
     enum-told
     no-marks-requires
     enum-told-2
-    check-natural-requires
+    check-simple-requires
     enum-told-3
     check-modified-requires
     returns

@@ -1,7 +1,6 @@
 use borrow.Author.Needs.{needs}
 use borrow.Author.Tests.{ltb-true, ltb-false}
 use mathlib.Core.Path.{_≡_, sym, subst, _∙_}
-use mathlib.Core.Bool.{true≢false}
 use native.Mathlib.Omega.{arith}
 use Rattle.voice.specs.Voice.{voiceOf}
 use Rattle.sheet.specs.Sheet.{sheetOf}
@@ -15,15 +14,15 @@ use Rattle.checking.proofs.check_natural.Statement.{statement}
 use Rattle.checking.proofs.check_natural.Tie as tie
 
 abbrev Inv-loop : tie.InvT-loop
-Inv-loop file sheet by none walk₀ place₀ left₀ walk place left =
+Inv-loop file index sheet by walk₀ place₀ left₀ walk place left =
     UnitWalking (by .voice .header .frames) sheet (by .places .segments .count) walk
     × Going (voiceOf file) (unitsOf (voiceOf file) (folded (by .fold) (sheetOf sheet .segments))) (unitsLeft (voiceOf file) (by .fold) sheet (by .places .segments .count) walk) place left
 
 abbrev μ-loop : tie.MeasureT-loop
-μ-loop file sheet by none walk₀ place₀ left₀ walk place left = manyLeft walk
+μ-loop file index sheet by walk₀ place₀ left₀ walk place left = manyLeft walk
 
 first-unit-requires : tie.Need-first-unit-requires Inv-loop μ-loop
-first-unit-requires c κs = c .before .before .before .pre .1
+first-unit-requires c κs = c .before .before .before .before .pre .1
 
 loop-holds : tie.Need-loop-holds Inv-loop μ-loop
 loop-holds c = let s = c .first-unit .ensures in (s .walking _, going-first _ _ _ (s .units _ _))
@@ -31,23 +30,20 @@ loop-holds c = let s = c .first-unit .ensures in (s .walking _, going-first _ _ 
 has-unit-requires : tie.Need-has-unit-requires Inv-loop μ-loop
 has-unit-requires c κs = search needs
 
-slice-aggregate-next-unit : tie.Need-slice-aggregate-next-unit Inv-loop μ-loop
-slice-aggregate-next-unit c = search needs
-
 next-unit-requires : tie.Need-next-unit-requires Inv-loop μ-loop
 next-unit-requires c κs =
     let p = c .before .before .before .before .before .before .before .before .pre in
-    (record { opened = p .0 .0; filled = λ e. absurd (true≢false (sym e ∙ p .0 .1)) }, (p .1 .0, (c .before .before .before .loop .inv .0, ltb-true 0 _ (sym (c .before .before .has-unit .ensures) ∙ c .before .if1 .taken))))
+    (p .0, (p .1 .0, (c .before .before .loop .inv .0, ltb-true 0 _ (sym (c .before .has-unit .ensures) ∙ c .if1 .taken))))
 
 check-unit-marks-requires : tie.Need-check-unit-marks-requires Inv-loop μ-loop
-check-unit-marks-requires c κs = (c .before .before .before .before .before .before .before .before .before .before .pre .0 .0, c .before .next-unit .ensures .inside .within, c .before .before .before .before .before .loop .inv .1 .low)
+check-unit-marks-requires c κs = (c .before .before .before .before .before .before .before .before .before .before .pre .0 .opened, c .before .next-unit .ensures .inside .within, c .before .before .before .before .loop .inv .1 .low)
 
 enum-known-cause : tie.Need-enum-known-cause Inv-loop μ-loop
 enum-known-cause c = search needs
 
 returns : tie.Need-returns Inv-loop μ-loop
 returns c =
-    let l = c .before .before .before .before .before .before .before .before .before .loop in
+    let l = c .before .before .before .before .before .before .before .before .loop in
     let s = c .before .before .before .before .before .next-unit in
     going-refused _ _ _ _ _ _ _ (s .ensures .units) (l .inv .1) _ (sym (c .before .before .before .check-unit-marks .ensures .0) ∙ c .before .cause .given .1)
 
@@ -59,7 +55,7 @@ loop-less c = let e = c .before .before .before .before .before .before .next-un
 
 loop-again : tie.Need-loop-again Inv-loop μ-loop
 loop-again c =
-    let l = c .before .before .before .before .before .before .before .before .before .before .loop in
+    let l = c .before .before .before .before .before .before .before .before .before .loop in
     let s = c .before .before .before .before .before .before .next-unit in
     let m = c .before .before .before .before .check-unit-marks in
     let e = c .before .before .end .given .1 in
@@ -83,7 +79,6 @@ check-natural-spec =
     first-unit-requires
     loop-holds
     has-unit-requires
-    slice-aggregate-next-unit
     next-unit-requires
     check-unit-marks-requires
     enum-known-cause
