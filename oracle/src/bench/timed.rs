@@ -14,7 +14,6 @@ use crate::sheet::{self, Sheet};
 use crate::utterance::Utterance;
 use crate::voice::VoiceParams;
 use std::hint::black_box;
-use std::time::Instant;
 
 /// What is timed. The Rust is given its utterance, the archive reads the sheet.
 #[derive(Clone, Copy, Debug, PartialEq, Eq)]
@@ -33,6 +32,21 @@ pub enum Part {
 
 const PARTS: usize = 8;
 
+unsafe extern "C" {
+    fn clock_gettime(clock: i32, time: *mut [i64; 2]) -> i32;
+}
+
+/// What this thread has used of its processor: other work that takes the
+/// processor away in between does not count. Linux on x86-64.
+fn thread_seconds() -> f64 {
+    const THREAD_CPUTIME: i32 = 3;
+    let mut time = [0; 2];
+    // SAFETY: a `timespec` is two 64-bit words here.
+    let answer = unsafe { clock_gettime(THREAD_CPUTIME, &mut time) };
+    assert_eq!(answer, 0, "clock_gettime");
+    time[0] as f64 + time[1] as f64 * 1e-9
+}
+
 /// Seconds, by part and round.
 #[derive(Default)]
 pub struct Costs {
@@ -41,9 +55,9 @@ pub struct Costs {
 
 impl Costs {
     fn time<T>(&mut self, part: Part, run: impl FnOnce() -> T) -> T {
-        let start = Instant::now();
+        let start = thread_seconds();
         let result = black_box(run());
-        self.seconds[part as usize].push(start.elapsed().as_secs_f64());
+        self.seconds[part as usize].push(thread_seconds() - start);
         result
     }
 
