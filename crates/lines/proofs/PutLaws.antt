@@ -2,11 +2,12 @@
 use mathlib.Core.Path.{_≡_, refl, ap, sym, _∙_}
 use mathlib.Core.List.{List, [], _∷_, _++_}
 use Prim.Native.Nat.{ℕ, _+_, _*_, _≤_, _<_}
+use native.Mathlib.Nat.{zero-add}
 use native.Mathlib.Omega.{arith}
 use lib.ListN.{length, length-append}
 use lib.Seq.{sets, length-sets}
-use Rattle.base.specs.Buffers.{flat, upto}
-use Rattle.base.proofs.BufferLaws.{sets-append, upto-more, flat-snoc}
+use Rattle.base.specs.Buffers.{over, flat, upto}
+use Rattle.base.proofs.BufferLaws.{sets-append, sets-over, upto-more, flat-snoc}
 use Rattle.lines.specs.Lines.{Puts, next}
 
 pub put-none : (d : List ℕ) (at : ℕ) → Puts d at [] d at
@@ -19,6 +20,10 @@ put-more {d} {e} {f} {s} {t} {at} {i} {j} p q =
       left = q .left ∙ rw (p .left, p .ended) (sym (sets-append d at s t));
       ended = simp length-append (omega (arith, p .ended, q .ended));
     }
+
+-- a text that was copied to the front
+pub put-front : (s d : List ℕ) {e : List ℕ} → length s ≤ length d → e ≡ over s d → Puts d 0 s e (length s)
+put-front s d h q = record { left = q ∙ sym (sets-over s d h); ended = sym (zero-add (length s)) }
 
 -- a buffer keeps its length
 pub put-length : {d e s : List ℕ} {at i : ℕ} → Puts d at s e i → length e ≡ length d

@@ -3,10 +3,11 @@ use mathlib.Core.Path.{_≡_}
 use mathlib.Core.List.{List, [], _∷_, _++_}
 use Prim.Native.Nat.{ℕ, _+_, _-_, _/_, _%_}
 use lib.Dec.{ltb}
-use lib.ListN.{length}
+use lib.ListN.{length, getD}
 use lib.Seq.{sets}
 use Rattle.base.specs.Choice.{pick}
-use Rattle.base.specs.Buffers.{flat}
+use Rattle.base.specs.Buffers.{flat, upto}
+use Rattle.base.specs.Text.{ascii}
 
 -- a text was put at place `at` of a buffer, and ends before place `end`
 pub record Puts (before : List ℕ) (at : ℕ) (text after : List ℕ) (end : ℕ) : Type 0 where
@@ -39,3 +40,11 @@ period number words = decimal number ++ (32 ∷ (decimal (length words) ++ (samp
 -- 'First line: rate, periods, samples'
 unfoldable pub summary : ℕ → ℕ → ℕ → List ℕ
 summary rate periods samples = decimal rate ++ (32 ∷ (decimal periods ++ (32 ∷ (decimal samples ++ (10 ∷ [])))))
+
+-- 'A refusal prints only `refused`, a space and the number'
+unfoldable pub refused : ℕ → List ℕ
+refused number = ascii "refused " ++ (decimal number ++ (10 ∷ []))
+
+-- the lines of periods, numbered from 1 on
+unfoldable pub periods : List (List ℕ) → List ℕ
+periods ps = flat (λ (line : List ℕ). line) (upto (λ (k : ℕ). period (k + 1) (getD ps k [])) (length ps))

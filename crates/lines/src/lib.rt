@@ -80,12 +80,12 @@ fn put_samples(samples: &[u8], out: &mut [u8], at: usize) -> usize
 }
 
 // The line of a period: its number, its size, its samples.
-pub fn put_period(number: u32, samples: &[u8], out: &mut [u8]) -> usize
-    requires { ⌜ (number < 100000) × ((length (now samples) ≤ 8192) × (28684 ≤ length (now out))) ⌝ }
-    ensures { λ r. ⌜ lines.Puts (now (out .entry)) 0 (lines.period number (elements 2 (now (samples .entry)))) (now (out .exit)) r ⌝ }
-    ensures { λ r. ⌜ r ≤ 28684 ⌝ }
+pub fn put_period(number: u32, samples: &[u8], out: &mut [u8], at: usize) -> usize
+    requires { ⌜ (number < 100000) × ((length (now samples) ≤ 8192) × (at + (7 * (length (now samples) / 2) + 12) ≤ length (now out))) ⌝ }
+    ensures { λ r. ⌜ lines.Puts (now (out .entry)) at (lines.period number (elements 2 (now (samples .entry)))) (now (out .exit)) r ⌝ }
+    ensures { λ r. ⌜ r ≤ at + (7 * (length (now (samples .entry)) / 2) + 12) ⌝ }
 {
-    let a = put_number(number, out, 0);
+    let a = put_number(number, out, at);
     let b = put_byte(b' ', out, a);
     let c = put_number((samples.len() / 2) as u32, out, b);
     let d = put_samples(samples, out, c);
@@ -104,4 +104,14 @@ pub fn put_summary(rate: u32, periods: u32, samples: u32, out: &mut [u8]) -> usi
     let d = put_byte(b' ', out, c);
     let e = put_number(samples, out, d);
     put_byte(b'\n', out, e)
+}
+
+// The line of a refusal: its number.
+pub fn put_refused(number: u32, out: &mut [u8]) -> usize
+    requires { ⌜ (number < 100000) × (14 ≤ length (now out)) ⌝ }
+    ensures { λ r. ⌜ lines.Puts (now (out .entry)) 0 (lines.refused number) (now (out .exit)) r ⌝ }
+{
+    base::bytes::copy(b"refused ", out);
+    let end = put_number(number, out, 8);
+    put_byte(b'\n', out, end)
 }

@@ -1,0 +1,1 @@
+-- The root of speak's laws.
