@@ -110,6 +110,7 @@ pub fn put_summary(rate: u32, periods: u32, samples: u32, out: &mut [u8]) -> usi
 pub fn put_refused(number: u32, out: &mut [u8]) -> usize
     requires { ⌜ (number < 100000) × (14 ≤ length (now out)) ⌝ }
     ensures { λ r. ⌜ lines.Puts (now (out .entry)) 0 (lines.refused number) (now (out .exit)) r ⌝ }
+    ensures { λ r. ⌜ r ≤ 14 ⌝ }
 {
     base::bytes::copy(b"refused ", out);
     let end = put_number(number, out, 8);

@@ -20,6 +20,8 @@ use Rattle.lpc.specs.State.{freshState, periodsBy}
 use Rattle.call.specs.declared.JoinType.the-variants.{Simple}
 use Rattle.call.specs.declared.Settings.{Settings}
 use Rattle.call.specs.declared.Summary.{Summary}
+use Rattle.call.specs.declared.Answer.{Answer}
+use Rattle.call.specs.declared.Answer.the-variants.{Given, Done, Refused}
 use Rattle.call.specs.Call.{periodsOf}
 use Rattle.call.specs.Buffers.{Buffers, lent, callRefusal, summaryOf}
 use Rattle.call.specs.Pull.{Lent, lentOf}
@@ -62,6 +64,12 @@ textOf file sheet =
 unfoldable pub periodsFor : FilterState → Lent → List (List ℕ)
 periodsFor s l = periodsBy (s .filter) (s .«coeff_min») (s .«coeff_range») (cut (s .order) (l .sizes) (l .rows) (l .excitation))
 
+-- how many samples a pull gave
+abbrev pub givenBy : Answer → ℕ
+givenBy (Given n) = n
+givenBy Done = 0
+givenBy (Refused r) = 0
+
 -- a fresh state, lent all rows of the sizes
 pub record Fresh (s : FilterState) (l : Lent) : Type 0 where
   pub fresh : s ≡ freshState (s .filter) (s .order) (s .«coeff_min») (s .«coeff_range»)
@@ -80,6 +88,7 @@ pub record Spoke (m : Summary) (s : FilterState) (sizes rows excitation : List �
   pub periodsLow : m .periods ≤ 1024
   pub samplesLow : m .samples ≤ 4096
   pub orderLow : m .order ≤ 32
+  pub valuesLow : m .periods * m .order ≤ 32768
   pub sizesThere : 4 * m .periods ≤ length sizes
   pub rowsThere : 2 * (m .periods * m .order) ≤ length rows
   pub excitationThere : m .samples ≤ length excitation

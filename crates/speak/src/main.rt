@@ -19,7 +19,18 @@ use lpc::FilterState;
 use lpc::ResynthType;
 use refusal::Refusal;
 
-// Pulls each period, and puts its line at place `at` on.
+// How many samples a pull gave.
+fn given(answer: Answer) -> usize
+    ensures { λ r. ⌜ r ≡ speaks.givenBy answer ⌝ }
+{
+    match answer {
+        Answer::Given(n) => n,
+        Answer::Done => 0,
+        Answer::Refused(_) => 0,
+    }
+}
+
+// Pulls each period, and puts its line at place `at` on. Each of these pulls gives its period.
 fn put_periods(
     state: FilterState,
     sizes: &[u8],
@@ -31,6 +42,7 @@ fn put_periods(
     requires { ⌜ speaks.Fresh state (lentOf (now sizes) (now rows) (now excitation)) ⌝ }
     requires { ⌜ (length (now sizes) ≤ 4096) × ((length (now excitation) ≤ 4096) × (at + 40960 ≤ length (now out))) ⌝ }
     ensures { λ r. ⌜ Puts (now (out .entry)) at (lines.periods (speaks.periodsFor state (lentOf (now (sizes .entry)) (now (rows .entry)) (now (excitation .entry))))) (now (out .exit)) r ⌝ }
+    ensures { λ r. ⌜ r ≤ at + 40960 ⌝ }
 {
     let mut samples = [0u8; 8192];
     let mut before = state;
@@ -40,16 +52,10 @@ fn put_periods(
         let pulled = diphone::pull(before, sizes, rows, excitation, &mut samples);
         let answer = pulled.answer;
         let after = pulled.state;
-        match answer {
-            Answer::Given(n) => {
-                number += 1;
-                let m = 2 * n;
-                end = lines::put_period(number as u32, &samples[..m], out, end);
-                before = after;
-            }
-            Answer::Done => return end,
-            Answer::Refused(_) => return end,
-        }
+        let m = 2 * given(answer);
+        number += 1;
+        end = lines::put_period(number as u32, &samples[..m], out, end);
+        before = after;
     }
     end
 }
@@ -66,6 +72,7 @@ fn put_spoken(
     requires { ⌜ speaks.Spoke m state (now sizes) (now rows) (now excitation) ⌝ }
     requires { ⌜ 41000 ≤ length (now out) ⌝ }
     ensures { λ r. ⌜ Puts (now (out .entry)) 0 (speaks.spokenBy m state (now (sizes .entry)) (now (rows .entry)) (now (excitation .entry))) (now (out .exit)) r ⌝ }
+    ensures { λ r. ⌜ r ≤ 41000 ⌝ }
 {
     let at = lines::put_summary(m.rate as u32, m.periods as u32, m.samples as u32, out);
     let a = 4 * m.periods;
@@ -94,6 +101,7 @@ fn put_call(
         (lent (now (index .entry)) (now (marks .entry)) (now (sizes .entry)) (now (rows .entry)) (now (excitation .entry)) (now (decoded .entry))))
         (now (out .exit)) r
         ⌝ }
+    ensures { λ r. ⌜ r ≤ 41000 ⌝ }
 {
     let settings = Settings {
         join: JoinType::Simple,
@@ -123,6 +131,7 @@ fn put_call(
 fn put_text(voice: &[u8], sheet: &[u8], out: &mut [u8]) -> usize
     requires { ⌜ 41000 ≤ length (now out) ⌝ }
     ensures { λ r. ⌜ Puts (now (out .entry)) 0 (speaks.textOf (now (voice .entry)) (now (sheet .entry))) (now (out .exit)) r ⌝ }
+    ensures { λ r. ⌜ Counts r (now (out .exit)) ⌝ }
 {
     if voice.len() > 32768 {
         return lines::put_refused(refusal::number(Refusal::ShortBuffer), out);

@@ -39,8 +39,7 @@ returns c =
     let c1 = c2 .before .before .before .before in
     let s = c1 .before .before .before .before .args .samples .now in
     let l : c4 .put-samples .result ≤ c3 .put-number2 .result + 7 * (length s / 2) = c4 .put-samples .ensures .1 in
-    let m : length s ≤ 8192 = c1 .before .before .before .before .pre .1 .0 in
-    (
+    let m : length s ≤ 8192 = c1 .before .before .before .before .pre .1 .0 in (
       rw (length-elements 2 s) (put-more (c1 .put-number .ensures .0) (put-more (c2 .put-byte .ensures .0) (put-more (c3 .put-number2 .ensures .0) (put-more (c4 .put-samples .ensures .0) (c5 .put-byte2 .ensures .0))))),
       omega (arith, l, m, c1 .put-number .ensures .1, c2 .put-byte .ensures .1, c3 .put-number2 .ensures .1, c5 .put-byte2 .ensures .1),
     )

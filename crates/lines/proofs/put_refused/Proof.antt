@@ -31,7 +31,7 @@ returns c =
     let c1 = c2 .before .before .before .before in
     let d = c1 .before .before .before .before .args .out .now in
     let h : 14 ≤ length d = c1 .before .before .before .before .pre .1 in
-    put-more (put-front (ascii "refused ") d (omega arith) (c1 .copy .ensures)) (put-more (c2 .put-number .ensures .0) (c3 .put-byte .ensures .0))
+    (put-more (put-front (ascii "refused ") d (omega arith) (c1 .copy .ensures)) (put-more (c2 .put-number .ensures .0) (c3 .put-byte .ensures .0)), search needs)
 
 pub put-refused-spec : {M : Type 1} → statement M
 put-refused-spec =
