@@ -9,10 +9,15 @@ pub struct Args {
     pub out: Option<String>,
     /// A file of a voice's G.721 codes.
     pub codes: Option<String>,
+    /// A voice file, and a folder of call sheets for it.
+    pub voice: Option<String>,
+    pub sheets: Option<String>,
+    /// A join and a filter, as in `simple-float`.
+    pub only: Option<String>,
 }
 
-/// Reads `--seed N`, `--count N`, `--from N`, `--all`, `--out FILE` and
-/// `--codes FILE`.
+/// Reads `--seed N`, `--count N`, `--from N`, `--all`, `--out FILE`,
+/// `--codes FILE`, `--voice FILE`, `--sheets FOLDER` and `--only JOIN-FILTER`.
 pub fn read(words: &[String]) -> Result<Args, String> {
     let mut args = Args {
         seed: 1,
@@ -21,6 +26,9 @@ pub fn read(words: &[String]) -> Result<Args, String> {
         all: false,
         out: None,
         codes: None,
+        voice: None,
+        sheets: None,
+        only: None,
     };
     let mut rest = words.iter();
     while let Some(word) = rest.next() {
@@ -31,6 +39,9 @@ pub fn read(words: &[String]) -> Result<Args, String> {
             "--all" => args.all = true,
             "--out" => args.out = Some(file(word, rest.next())?),
             "--codes" => args.codes = Some(file(word, rest.next())?),
+            "--voice" => args.voice = Some(file(word, rest.next())?),
+            "--sheets" => args.sheets = Some(file(word, rest.next())?),
+            "--only" => args.only = Some(file(word, rest.next())?),
             other => return Err(format!("unknown option {other}")),
         }
     }

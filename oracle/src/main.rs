@@ -6,12 +6,14 @@
 include!(concat!(env!("OUT_DIR"), "/root.rs"));
 
 mod args;
+#[cfg(feature = "calls")]
+mod bench;
 mod call;
 #[cfg(feature = "calls")]
 mod calls;
 #[cfg(feature = "probe")]
 mod codecs;
-#[cfg(all(feature = "diphone_c", feature = "probe_voice"))]
+#[cfg(any(feature = "calls", all(feature = "diphone_c", feature = "probe_voice")))]
 mod diphone_c;
 mod examples;
 mod expected;
@@ -36,13 +38,15 @@ mod probe_call;
 mod probe_take;
 #[cfg(feature = "probe_voice")]
 mod probe_voice;
+#[cfg(feature = "calls")]
+mod real;
 mod reference;
 mod refusal;
 mod report;
 mod rng;
 mod selfcheck;
 mod sheet;
-#[cfg(feature = "probe")]
+#[cfg(any(feature = "probe", feature = "calls"))]
 mod speech;
 mod statements;
 #[cfg(feature = "probe_state")]
@@ -65,7 +69,9 @@ const USAGE: &str = "usage:
   oracle openings [--seed N] [--from N] [--count N]
   oracle marks [--seed N] [--from N] [--count N]
   oracle windows [--seed N] [--from N] [--count N]
-  oracle calls [--seed N] [--from N] [--count N]";
+  oracle calls [--seed N] [--from N] [--count N]
+  oracle real --voice FILE --sheets FOLDER
+  oracle bench [--count N] [--voice FILE --sheets FOLDER] [--only JOIN-FILTER]";
 
 fn main() -> ExitCode {
     let words: Vec<String> = std::env::args().skip(1).collect();
@@ -101,8 +107,12 @@ fn main() -> ExitCode {
         "windows" => return usage("built without the feature probe_take"),
         #[cfg(feature = "calls")]
         "calls" => calls::run(&args),
+        #[cfg(feature = "calls")]
+        "real" => real::run(&args),
+        #[cfg(feature = "calls")]
+        "bench" => bench::run(&args),
         #[cfg(not(feature = "calls"))]
-        "calls" => return usage("built without the feature calls"),
+        "calls" | "real" | "bench" => return usage("built without the feature calls"),
         other => return usage(&format!("unknown command {other}")),
     };
     match agreed {

@@ -123,7 +123,7 @@ pub fn prepared(sheet: &Sheet, settings: Settings) -> Utterance {
     utt
 }
 
-fn params(voice: &DiphoneVoice, settings: Settings) -> VoiceParams {
+pub fn params(voice: &DiphoneVoice, settings: Settings) -> VoiceParams {
     VoiceParams {
         join_type: match settings.join {
             Join::None => JoinType::None,

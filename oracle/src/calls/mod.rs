@@ -2,10 +2,10 @@
 //! `diphone_pull`, beside the Rust where they are spoken and beside document
 //! 01 where they are refused.
 
-mod archive;
+pub mod archive;
 mod cases;
 mod counts;
-mod guarded;
+pub mod guarded;
 mod machine;
 mod odd_states;
 mod planning;
@@ -62,7 +62,7 @@ pub fn run(args: &Args) -> bool {
 }
 
 /// One call with buffers of every sort. Its files stay as they are.
-fn check(rng: &mut Rng, call: &Call, bench: &mut Bench) {
+pub fn check(rng: &mut Rng, call: &Call, bench: &mut Bench) {
     let kept = [call.voice.clone(), call.sheet.clone()];
     let any = Most {
         marks: usize::MAX,

@@ -1,0 +1,2 @@
+-- The root of lines' laws.
+pub mod PutLaws

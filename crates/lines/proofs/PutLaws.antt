@@ -1,0 +1,57 @@
+-- Texts put one after the other.
+use mathlib.Core.Path.{_≡_, refl, ap, sym, _∙_}
+use mathlib.Core.List.{List, [], _∷_, _++_}
+use Prim.Native.Nat.{ℕ, _+_, _*_, _≤_, _<_}
+use native.Mathlib.Nat.{zero-add}
+use native.Mathlib.Omega.{arith}
+use lib.ListN.{length, length-append}
+use lib.Seq.{sets, length-sets}
+use Rattle.base.specs.Buffers.{over, flat, upto}
+use Rattle.base.proofs.BufferLaws.{sets-append, sets-over, upto-more, flat-snoc}
+use Rattle.lines.specs.Lines.{Puts, next}
+
+pub put-none : (d : List ℕ) (at : ℕ) → Puts d at [] d at
+put-none d at = record { left = refl; ended = omega arith }
+
+-- a text, and then another
+pub put-more : {d e f s t : List ℕ} {at i j : ℕ} → Puts d at s e i → Puts e i t f j → Puts d at (s ++ t) f j
+put-more {d} {e} {f} {s} {t} {at} {i} {j} p q =
+    record {
+      left = q .left ∙ rw (p .left, p .ended) (sym (sets-append d at s t));
+      ended = simp length-append (omega (arith, p .ended, q .ended));
+    }
+
+-- a text that was copied to the front
+pub put-front : (s d : List ℕ) {e : List ℕ} → length s ≤ length d → e ≡ over s d → Puts d 0 s e (length s)
+put-front s d h q = record { left = q ∙ sym (sets-over s d h); ended = sym (zero-add (length s)) }
+
+-- a buffer keeps its length
+pub put-length : {d e s : List ℕ} {at i : ℕ} → Puts d at s e i → length e ≡ length d
+put-length {d} {e} {s} {at} p = ap length (p .left) ∙ length-sets d at s
+
+-- ---- a loop that puts the samples f 0, f 1, ..: after i turns
+
+pub record At (f : ℕ → ℕ) (n : ℕ) (d : List ℕ) (at : ℕ) (e : List ℕ) (end i : ℕ) : Type 0 where
+  pub puts : Puts d at (flat next (upto f i)) e end
+  pub most : i ≤ n
+  pub near : end ≤ at + 7 * i
+  pub same : length e ≡ length d
+
+module _ (f : ℕ → ℕ) (n : ℕ) (d : List ℕ) (at : ℕ) where
+  pub start : At f n d at d at 0
+  unfolding flat upto
+  start = record { puts = put-none d at; most = omega arith; near = omega arith; same = refl }
+
+  pub turn : {e g : List ℕ} {end j w : ℕ} (i : ℕ) → At f n d at e end i → i < n → w ≡ f i → Puts e end (next w) g j → j ≤ end + 7 → At f n d at g j (i + 1)
+  turn {e} {g} {end} {j} {w} i a h q p l =
+      record {
+        puts = rw (upto-more f i, flat-snoc next (upto f i) (f i)) (put-more (a .puts) (rw q at p));
+        most = omega arith;
+        near = omega (arith, a .near, l);
+        same = put-length p ∙ a .same;
+      }
+
+  pub end-of : {e : List ℕ} {end : ℕ} (i : ℕ) → At f n d at e end i → n ≤ i → Puts d at (flat next (upto f n)) e end × (end ≤ at + 7 * n)
+  end-of i a h =
+      let q : i ≡ n = omega (arith, a .most, h) in
+      (rw q at (a .puts), rw q at (a .near))

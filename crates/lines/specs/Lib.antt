@@ -1,0 +1,2 @@
+-- The root of lines' definitions.
+pub mod Lines

@@ -1,0 +1,3 @@
+-- The root of speak's laws.
+pub mod TurnLaws
+pub mod CallLaws

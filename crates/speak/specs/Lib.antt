@@ -1,0 +1,2 @@
+-- The root of speak's definitions.
+pub mod Speaking

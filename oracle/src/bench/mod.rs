@@ -1,0 +1,131 @@
+//! `oracle bench`: what a call costs here and in the Rust, in one process and
+//! in turn, on a voice and sheets that are given, or on generated ones of the
+//! same extent.
+
+mod synthetic;
+mod timed;
+
+use crate::args::Args;
+use crate::call::{Filter, Join, Settings, FILTERS};
+use crate::real::{self, Files};
+use crate::sheet::{self, Sheet};
+use timed::{Costs, Part, Timed};
+
+/// How often each call is made on either side.
+const ROUNDS: u64 = 20;
+
+/// The longest sheet is repeated so many times.
+const REPEATED: [usize; 5] = [1, 2, 4, 8, 16];
+
+pub fn run(args: &Args) -> bool {
+    let rounds = args.count.unwrap_or(ROUNDS).max(1) as usize;
+    let given = match (&args.voice, &args.sheets) {
+        (None, None) => synthetic::voices(args.seed),
+        _ => match real::files(args) {
+            Ok(files) => vec![(args.voice.clone().unwrap_or_default(), files)],
+            Err(message) => {
+                println!("oracle: {message}");
+                return false;
+            }
+        },
+    };
+    for (name, files) in given {
+        bench(&name, files, rounds, args.only.as_deref());
+    }
+    true
+}
+
+fn bench(name: &str, files: Files, rounds: usize, only: Option<&str>) {
+    let voice: &'static [u8] = Box::leak(files.voice.into_boxed_slice());
+    let sheets: Vec<Sheet> = files.sheets.iter().map(|(name, bytes)| read(name, bytes)).collect();
+    println!("oracle bench: {name}, {} sheets, {rounds} rounds", sheets.len());
+    println!("  ns a sample, best and median of the rounds: here, the Rust, ratio; open in µs");
+    for settings in settings(only) {
+        let label = label(settings);
+        let mut calls: Vec<Timed> = sheets
+            .iter()
+            .map(|sheet| Timed::new(voice, sheet, settings))
+            .collect();
+        for _ in 0..rounds {
+            calls.iter_mut().for_each(Timed::round);
+        }
+        let samples: usize = calls.iter().map(|call| call.samples).sum();
+        println!("  {label}: {samples} samples");
+        show(&calls, rounds, samples);
+    }
+    if only.is_some() {
+        return;
+    }
+    let longest = sheets.iter().max_by_key(|sheet| sheet.segments.len());
+    for settings in settings(None).into_iter().filter(|s| s.filter == Filter::Fixed) {
+        println!("  {}, a sheet repeated; µs a call, best: here, the Rust", label(settings));
+        for times in REPEATED {
+            grown(voice, longest.expect("a sheet"), times, settings, rounds);
+        }
+    }
+}
+
+fn read(name: &str, bytes: &[u8]) -> Sheet {
+    sheet::read(bytes).unwrap_or_else(|refusal| panic!("{name}: refused {}", refusal.number()))
+}
+
+fn settings(only: Option<&str>) -> Vec<Settings> {
+    let mut all = Vec::new();
+    for join in [Join::Simple, Join::Modified] {
+        for filter in FILTERS {
+            all.push(Settings { join, filter, fold: false });
+        }
+    }
+    all.retain(|settings| only.is_none_or(|only| only == label(*settings)));
+    all
+}
+
+fn label(settings: Settings) -> String {
+    format!("{:?}-{:?}", settings.join, settings.filter).to_lowercase()
+}
+
+/// A line for each pair of parts that do the same.
+fn show(calls: &[Timed], rounds: usize, samples: usize) {
+    let pairs: [(&str, &[Part], &[Part]); 4] = [
+        ("plan, pulls", &[Part::Plan, Part::Pulls], &[Part::RustWhole]),
+        ("plan", &[Part::Plan], &[Part::RustParse, Part::RustPrepare]),
+        ("pulls", &[Part::Pulls], &[Part::RustFilter]),
+        ("need", &[Part::Need], &[]),
+    ];
+    let costs: Vec<&Costs> = calls.iter().map(|call| &call.costs).collect();
+    let each = |parts: &[Part], place: usize| -> f64 {
+        let total: f64 = costs.iter().map(|costs| costs.at(parts, place)).sum();
+        total * 1e9
+    };
+    let line = |name: &str, here: &[Part], rust: &[Part], unit: f64| {
+        let text = [0, rounds / 2].map(|place| {
+            let [a, b] = [here, rust].map(|parts| each(parts, place) / unit);
+            match rust.is_empty() {
+                true => format!("{a:8.2}"),
+                false => format!("{a:8.2} {b:8.2} {:6.3}", a / b),
+            }
+        });
+        println!("    {name:12} {}", text.join("   "));
+    };
+    for (name, here, rust) in pairs {
+        line(name, here, rust, samples as f64);
+    }
+    let opened = 1e3 * calls.len() as f64;
+    line("open, µs", &[Part::Open], &[Part::RustParse], opened);
+}
+
+/// The cost of a sheet that is a sheet several times over.
+fn grown(voice: &'static [u8], sheet: &Sheet, times: usize, settings: Settings, rounds: usize) {
+    let long = synthetic::repeated(sheet, times);
+    let mut call = Timed::new(voice, &long, settings);
+    for _ in 0..rounds {
+        call.round();
+    }
+    let [need, plan, pulls, whole] =
+        [Part::Need, Part::Plan, Part::Pulls, Part::RustWhole].map(|part| call.costs.at(&[part], 0) * 1e6);
+    println!(
+        "    {:4} segments, {:7} samples: need {need:8.1}, plan {plan:8.1}, pulls {pulls:8.1}; {whole:8.1}",
+        long.segments.len(),
+        call.samples,
+    );
+}

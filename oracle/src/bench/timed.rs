@@ -1,0 +1,231 @@
+//! One call, timed part by part on either side.
+
+use crate::call::{Filter, Join, Settings};
+use crate::calls::archive::{self, Lent, Request, NEED_BYTES, STATE_BYTES, SUMMARY_BYTES};
+use crate::calls::guarded::Guarded;
+use crate::diphone::access::{self, Excitation};
+use crate::diphone::{synthesise_streaming, DiphoneVoice};
+use crate::diphone_c::{self, VOICE_BYTES};
+use crate::dsp::{self, Flow};
+use crate::lent::WIDTHS;
+use crate::reference;
+use crate::rng::Rng;
+use crate::sheet::{self, Sheet};
+use crate::utterance::Utterance;
+use crate::voice::VoiceParams;
+use std::hint::black_box;
+
+/// What is timed. The Rust is given its utterance, the archive reads the sheet.
+#[derive(Clone, Copy, Debug, PartialEq, Eq)]
+pub enum Part {
+    Open,
+    Need,
+    Plan,
+    Pulls,
+    RustParse,
+    /// From the parsed voice to the excitation.
+    RustPrepare,
+    RustFilter,
+    /// Parsed and spoken.
+    RustWhole,
+}
+
+const PARTS: usize = 8;
+
+unsafe extern "C" {
+    fn clock_gettime(clock: i32, time: *mut [i64; 2]) -> i32;
+}
+
+/// What this thread has used of its processor: other work that takes the
+/// processor away in between does not count. Linux on x86-64.
+fn thread_seconds() -> f64 {
+    const THREAD_CPUTIME: i32 = 3;
+    let mut time = [0; 2];
+    // SAFETY: a `timespec` is two 64-bit words here.
+    let answer = unsafe { clock_gettime(THREAD_CPUTIME, &mut time) };
+    assert_eq!(answer, 0, "clock_gettime");
+    time[0] as f64 + time[1] as f64 * 1e-9
+}
+
+/// Seconds, by part and round.
+#[derive(Default)]
+pub struct Costs {
+    seconds: [Vec<f64>; PARTS],
+}
+
+impl Costs {
+    fn time<T>(&mut self, part: Part, run: impl FnOnce() -> T) -> T {
+        let start = thread_seconds();
+        let result = black_box(run());
+        self.seconds[part as usize].push(thread_seconds() - start);
+        result
+    }
+
+    /// The sum of some parts, each at its place among the rounds in ascending
+    /// order.
+    pub fn at(&self, parts: &[Part], place: usize) -> f64 {
+        let at = |part: &Part| {
+            let mut seconds = self.seconds[*part as usize].clone();
+            seconds.sort_by(f64::total_cmp);
+            seconds[place]
+        };
+        parts.iter().map(at).sum()
+    }
+}
+
+pub struct Timed {
+    voice: &'static [u8],
+    sheet: Vec<u8>,
+    settings: Settings,
+    /// Index, marks, sizes, rows, excitation, decoded, state, summary, just
+    /// long enough.
+    buffers: [Guarded; 8],
+    need: Guarded,
+    opening: [Vec<u8>; 2],
+    /// What the plan fills, and its fresh state.
+    lent: Lent,
+    fresh: Guarded,
+    slice: Guarded,
+    rust: DiphoneVoice,
+    utt: Utterance,
+    params: VoiceParams,
+    excitation: Excitation,
+    pub samples: usize,
+    pub costs: Costs,
+}
+
+impl Timed {
+    /// Makes the call once on either side. Its samples must be equal.
+    pub fn new(voice: &'static [u8], sheet: &Sheet, settings: Settings) -> Timed {
+        let rng = &mut Rng::new(1);
+        let sheet_bytes = sheet::write(sheet);
+        let request = request(voice, &sheet_bytes, settings);
+        let mut need = Guarded::new(rng, NEED_BYTES);
+        assert_eq!(archive::need(&request, &mut need), 0, "need");
+        let elements: Vec<usize> = need
+            .bytes()
+            .chunks(8)
+            .map(|bytes| u64::from_le_bytes(bytes.try_into().expect("8 bytes")) as usize)
+            .collect();
+        let mut buffers: [Guarded; 8] = std::array::from_fn(|i| {
+            let length = match i {
+                6 => STATE_BYTES,
+                7 => SUMMARY_BYTES,
+                other => WIDTHS[other] * elements[other],
+            };
+            Guarded::new(rng, length)
+        });
+        assert_eq!(archive::plan(&request, &mut buffers), 0, "plan");
+        let lent = Lent {
+            sizes: buffers[2].bytes().to_vec(),
+            rows: buffers[3].bytes().to_vec(),
+            excitation: buffers[4].bytes().to_vec(),
+        };
+        let rust = DiphoneVoice::parse(voice).expect("a voice");
+        let params = reference::params(&rust, settings);
+        let mut timed = Timed {
+            voice,
+            settings,
+            need,
+            opening: [vec![0; 8 * elements[0]], vec![0; VOICE_BYTES]],
+            slice: Guarded::new(rng, 2 * elements[4]),
+            samples: elements[4],
+            fresh: buffers[6].clone(),
+            buffers,
+            lent,
+            utt: reference::prepared(sheet, settings),
+            excitation: reference::fill(&rust, sheet, settings).taken,
+            params,
+            rust,
+            sheet: sheet_bytes,
+            costs: Costs::default(),
+        };
+        timed.compare(sheet);
+        timed
+    }
+
+    fn compare(&mut self, sheet: &Sheet) {
+        let mut state = self.fresh.clone();
+        for period in reference::speak(&self.rust, sheet, self.settings) {
+            let given = archive::pull(&mut state, &self.lent, &mut self.slice);
+            assert_eq!(given, period.len() as i64, "samples of a period");
+            let bytes: Vec<u8> = period.iter().flat_map(|sample| sample.to_le_bytes()).collect();
+            assert!(self.slice.bytes().starts_with(&bytes), "samples");
+        }
+        let given = archive::pull(&mut state, &self.lent, &mut self.slice);
+        assert!(given < 0, "done");
+    }
+
+    /// Every part once, the two sides in turn.
+    pub fn round(&mut self) {
+        let Timed { voice, sheet, settings, costs, .. } = self;
+        let voice = *voice;
+        let settings = *settings;
+        let request = request(voice, sheet, settings);
+        let (rust, utt, params) = (&self.rust, &self.utt, &self.params);
+        let [index, record] = &mut self.opening;
+
+        costs.time(Part::Open, || diphone_c::open(voice, index, record));
+        drop(costs.time(Part::RustParse, || DiphoneVoice::parse(voice)));
+        costs.time(Part::Plan, || archive::plan(&request, &mut self.buffers));
+        costs.time(Part::RustPrepare, || prepare(rust, utt, settings.join));
+        let mut state = self.fresh.clone();
+        costs.time(Part::Pulls, || while archive::pull(&mut state, &self.lent, &mut self.slice) >= 0 {});
+        costs.time(Part::RustFilter, || filter(rust, &self.excitation, settings.filter));
+        costs.time(Part::Need, || archive::need(&request, &mut self.need));
+        costs.time(Part::RustWhole, || {
+            let rust = DiphoneVoice::parse(voice).expect("a voice");
+            synthesise_streaming(&rust, utt, params, &mut sink);
+        });
+    }
+}
+
+fn request<'a>(voice: &'a [u8], sheet: &'a [u8], settings: Settings) -> Request<'a> {
+    Request {
+        voice,
+        sheet,
+        join: match settings.join {
+            Join::None => 0,
+            Join::Simple => 1,
+            Join::Modified => 2,
+        },
+        filter: u32::from(settings.filter == Filter::Float),
+        fold: u32::from(settings.fold),
+    }
+}
+
+fn sink(period: &[i16]) -> Flow {
+    black_box(period);
+    Flow::Continue
+}
+
+#[inline(never)]
+fn prepare(rust: &DiphoneVoice, utt: &Utterance, join: Join) -> Excitation {
+    let mut units = access::select_units(rust, utt);
+    let marks = match join {
+        Join::Simple => access::natural_pitch_marks(rust, &mut units),
+        _ => access::pitch_marks(rust, utt),
+    };
+    match marks.len() {
+        0 | 1 => Excitation::default(),
+        _ => access::build_excitation(rust, &units, &marks),
+    }
+}
+
+#[inline(never)]
+fn filter(rust: &DiphoneVoice, taken: &Excitation, filter: Filter) {
+    let header = access::header(rust);
+    let resynthesise = match filter {
+        Filter::Fixed => dsp::lpc_resynthesise_streaming,
+        Filter::Float => dsp::lpc_resynthesise_float_streaming,
+    };
+    resynthesise(
+        &taken.rows,
+        &taken.sizes,
+        &taken.residual,
+        header.coeff_min,
+        header.coeff_range,
+        header.order,
+        &mut sink,
+    );
+}
