@@ -52,7 +52,7 @@ module _ (s : FilterState) (l : Lent) (d : List ℕ) where
   unfolding pullOf
   answer-read = read-by (possible s l) (allGiven s l) (ltb (length d / 2) (length (nextPart s l .bytes)))
 
--- one pull on the bytes of a state: what it shows, and that it leaves the bytes of the state that it returns
+-- one pull on the bytes of a state shows what the pull on the state does
 module _ (w : List ℕ) (s : FilterState) (held : HoldsState w s) (l : Lent) (d : List ℕ) where
   shown-in-c : (r : ℤ) (left : List ℕ) → r ≡ numberFor w l d → left ≡ sliceLeft w l d
       → _≡_ {A = Shown} (record { answer = answerRead r; slice = left }) (record { answer = pullOf s l d .pulled .answer; slice = pullOf s l d .slice })
