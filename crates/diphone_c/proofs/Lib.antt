@@ -5,3 +5,5 @@ pub mod RoundLaws
 pub mod PullLaws
 pub mod NumberLaws
 pub mod PlannedLaws
+pub mod StorableLaws
+pub mod HeldLaws

@@ -13,7 +13,7 @@ use Rattle.base.specs.Lists.{every, orNext}
 use Rattle.base.specs.Buffers.{over}
 use Rattle.base.proofs.ListLaws.{every-pass, every-fail, every-one}
 use Rattle.refusal.specs.declared.Refusal.{Refusal}
-use Rattle.refusal.specs.declared.Refusal.the-variants.{ShortBuffer}
+use Rattle.refusal.specs.declared.Refusal.the-variants.{BadMagic, SectionCut, NotDiphone, MissingSection, BadHeader, BadTables, BadIndex, BadSheet, NotFinite, BadSlope, PastLimit, TooManyMarks, ShortBuffer, ShortSlice, BadState}
 use Rattle.refusal.specs.Number.{numberOf}
 use Rattle.voice.specs.Voice.{voiceOf}
 use Rattle.sheet.specs.Sheet.{sheetOf}
@@ -28,6 +28,30 @@ use Rattle.diphone_c.specs.Open.{answerOf, unlessRefused}
 use Rattle.diphone_c.specs.Numbers.{needBytes, summaryBytes}
 use Rattle.diphone_c.specs.State.{bytesOfState}
 use Rattle.diphone_c.specs.Plan.{shortReport, refusalOfNeed, needLeft, Handed, refusalOfPlan, handedBy, handedAfter}
+
+-- ---- the answer 0
+
+number-some : (r : Refusal) → 1 ≤ numberOf r
+number-some BadMagic = omega arith
+number-some SectionCut = omega arith
+number-some NotDiphone = omega arith
+number-some MissingSection = omega arith
+number-some BadHeader = omega arith
+number-some BadTables = omega arith
+number-some BadIndex = omega arith
+number-some BadSheet = omega arith
+number-some NotFinite = omega arith
+number-some BadSlope = omega arith
+number-some PastLimit = omega arith
+number-some TooManyMarks = omega arith
+number-some ShortBuffer = omega arith
+number-some ShortSlice = omega arith
+number-some BadState = omega arith
+
+-- 0 is no refusal's number
+pub answered-none : (u : Option Refusal) → 0 ≡ answerOf u → u ≡ none
+answered-none none e = refl
+answered-none (some c) e = absurd (let l = number-some c in omega arith)
 
 -- ---- diphone_need
 
@@ -93,7 +117,7 @@ module _ (file sheet : List ℕ) (o : Settings) (h : Handed) where
 
   -- both are long enough: it is the call's
   module _ (j : 168 ≤ length (h .state)) (k : 48 ≤ length (h .summary)) where
-    by-call : refusalOfPlan file sheet o h ≡ callRefusal file sheet o (h .buffers)
+    pub by-call : refusalOfPlan file sheet o h ≡ callRefusal file sheet o (h .buffers)
     unfolding refusalOfPlan
     by-call =
         ap (λ (t : Bool). orNext (callRefusal file sheet o (h .buffers)) (pick t none (some ShortBuffer))) (every-pass _ _ (le-leb 168 (length (h .state)) j) ∙ every-one _ ∙ le-leb 48 (length (h .summary)) k)

@@ -101,16 +101,20 @@ module _ (b : List ℕ) where
         let h = outcome-ends o r (rw e) (n ∙ ap pullNumber g) in
         (h .0, (s ∙ ap (λ (x : Answer). keptBy x p b) g ∙ ap (λ (x : Pulled). keptBy (o .pulled .answer) x b) q ∙ h .1 .0, t ∙ h .1 .1))
 
--- a period given has no more samples than the excitation has bytes
-module _ (s : FilterState) (l : Lent) (d : List ℕ) (n : ℕ) where
-  abbrev chosen : Bool → Bool → Bool → Outcome
+-- ---- a pull, by its three tests
+
+module _ (s : FilterState) (l : Lent) (d : List ℕ) where
+  -- the state is possible, all was given, the slice is short
+  abbrev pub chosen : Bool → Bool → Bool → Outcome
   chosen t u v =
       let p = nextPart s l in
       pick t
       (pick u (leaves Done s d) (pick v (leaves (Refused ShortSlice) s d) (leaves (Given (length (p .bytes))) (advanced s p) (over (flat (bytesOf 2) (spoken s p)) d))))
       (leaves (Refused BadState) s d)
 
-  by-test : (t u v : Bool) → chosen t u v .pulled .answer ≡ Given n → n ≤ length (l .excitation)
+-- a period given has no more samples than the excitation has bytes
+module _ (s : FilterState) (l : Lent) (d : List ℕ) (n : ℕ) where
+  by-test : (t u v : Bool) → chosen s l d t u v .pulled .answer ≡ Given n → n ≤ length (l .excitation)
   unfolding nextPart
   by-test true true v e = let z : _≡_ {A = ℕ} 0 1 = cc in absurd (omega arith)
   by-test true false true e = let z : _≡_ {A = ℕ} 0 1 = cc in absurd (omega arith)

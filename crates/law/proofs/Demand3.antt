@@ -10,13 +10,12 @@ use denote.Ref.{now}
 use Rattle.base.specs.Lists.{Heads}
 use Rattle.base.specs.Buffers.{flat}
 use Rattle.base.specs.Bytes.{elements}
-use Rattle.base.proofs.ListLaws.{next-none, heads-by}
+use Rattle.base.proofs.ListLaws.{heads-by}
 use Rattle.base.proofs.BufferLaws.{flat-append}
 use Rattle.base.proofs.BoundLaws.{Below, each-take}
 use Rattle.refusal.specs.declared.Refusal.{Refusal}
 use Rattle.refusal.specs.declared.Refusal.the-variants.{ShortSlice}
 use Rattle.voice.specs.Voice.{Voice, voiceOf}
-use Rattle.voice.proofs.OpeningLaws.{Opens, opens}
 use Rattle.sheet.specs.Sheet.{Sheet, sheetOf}
 use Rattle.sheet.proofs.SheetLaws.{sheet-refers}
 use Rattle.excitation.specs.Taken.{sizesOf, rowsOf}
@@ -28,32 +27,23 @@ use Rattle.call.specs.declared.Summary.{Summary}
 use Rattle.call.specs.declared.Called.{Called}
 use Rattle.call.specs.declared.Called.the-variants.{Spoken}
 use Rattle.call.specs.declared.Planned.{Planned}
-use Rattle.call.specs.Buffers.{Buffers, callRefusal, checkRefusal, summaryOf, answerBy, plannedOf, buffersAfter, freshOf}
+use Rattle.call.specs.Buffers.{Buffers, callRefusal, summaryOf, answerBy, plannedOf, buffersAfter, freshOf}
 use Rattle.call.specs.declared.Answer.the-variants.{Done, Refused}
 use Rattle.call.specs.Pull.{lentOf, pullOf}
 use Rattle.call.specs.Machine.{Shown, pulls, shows, machine, written, samplesWritten, bytesOfPeriods, given, SaysDone}
 use Rattle.call.proofs.PullLaws.{shows-done, fresh-machine}
 use Rattle.call.proofs.MachineLaws.{machine-writes, machine-at, machine-within, before-within, shows-done-all, shows-refused, machine-done-all}
 use Rattle.call.proofs.CallLaws.{periods-ahead, periods-equal}
-use Rattle.call.proofs.FilledLaws.{call-planned, periods-low, periods-back}
+use Rattle.call.proofs.FilledLaws.{periods-low, periods-back}
+use Rattle.law.proofs.SpokenLaws.{opened, planned, fresh}
 use Rattle.law.proofs.LentLaws.{lentTaken, lent-filled}
 use Rattle.law.specs.SpokenCall.{SpokenCall, LentBytes, lentBy, voiceIn, sheetIn, periodsIn, samplesIn, bytesAfter, readAs, stateAfter, pullsAfter, Longer, BeginsWith}
+use Rattle.law.proofs.InC.{spoken-in-c, in-c-spoken, made-in-c}
 use Rattle.law.specs.Made.{PlanMade, made, PullsMade, none, more, MadeAfter}
+use Rattle.law.specs.MadeInC.{MadeInC}
 use Rattle.law.specs.Demand3.{WholeLists, Claim, Demand3, answerAt, givenBefore}
 
--- ---- what a spoken call shows
-
-module _ (c : SpokenCall) where
-  opened : Opens (voiceIn c)
-  unfolding callRefusal checkRefusal
-  opened = opens (c .voiceFile) (next-none _ _ (next-none _ _ (c .notRefused) .0) .0)
-
-  planned : planOf (voiceIn c) (sheetIn c) (c .settings) .refusal ≡ nothing
-  planned = call-planned (c .voiceFile) (c .sheetFile) (c .settings) (c .lent) (c .notRefused)
-
-  fresh : plannedOf (c .voiceFile) (c .sheetFile) (c .settings) (c .lent) .state ≡ freshOf (voiceIn c) (c .settings)
-  unfolding plannedOf
-  fresh = let e = c .notRefused in rw e
+-- ---- every list of pulls
 
 rows-taken : (c : SpokenCall) → length (rowsOf (periodsTaken (voiceIn c) (sheetIn c) (c .settings))) ≡ length (sizesOf (periodsTaken (voiceIn c) (sheetIn c) (c .settings))) * voiceIn c .header .order
 unfolding periodsTaken
@@ -63,8 +53,6 @@ rows-taken c =
 
 flat-heads : {A B : Type 0} (enc : A → List B) {s t : List A} → Heads s t → Heads (flat enc s) (flat enc t)
 flat-heads enc {s} h = heads-by (flat enc (h .more)) (ap (flat enc) (h .whole) ∙ flat-append enc s (h .more))
-
--- ---- every list of pulls
 
 -- 'For every list of pulls in a spoken call, refused ones included and whatever sample slices they are lent': which of the three answers each gives, and
 -- every byte of its slice afterwards, are the plain machine's.
@@ -226,6 +214,9 @@ demand3 =
     record {
       defined = claim (λ c ds os. os ≡ pullsAfter c ds) (λ c ds os e. e);
       made = claim MadeAfter made-after;
+      madeInC = claim MadeInC made-in-c;
       spoken = made-spoken;
       spokenThen = spoken-made;
+      spokenInC = spoken-in-c;
+      spokenInCThen = in-c-spoken;
     }

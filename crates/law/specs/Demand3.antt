@@ -17,8 +17,12 @@ use Rattle.call.specs.Buffers.{Buffers, callRefusal, summaryOf}
 use Rattle.call.specs.declared.Answer.{Answer}
 use Rattle.call.specs.declared.Answer.the-variants.{Done, Refused}
 use Rattle.call.specs.Machine.{Shown, machine, written, samplesWritten, bytesOfPeriods, given, SaysDone}
+use Rattle.diphone_c.specs.Numbers.{reportLength}
+use Rattle.diphone_c.specs.State.{stateLength}
+use Rattle.diphone_c.specs.Plan.{Handed}
 use Rattle.law.specs.SpokenCall.{SpokenCall, periodsIn, pullsAfter, Longer, BeginsWith}
 use Rattle.law.specs.Made.{PlanMade, MadeAfter}
+use Rattle.law.specs.MadeInC.{PlanMadeInC, MadeInC}
 
 -- the answer of pull i of a list, counted from 0, and how many periods the pulls before it gave
 abbrev pub answerAt : List Shown → ℕ → Answer
@@ -50,11 +54,17 @@ pub record Claim (After : SpokenCall → List (List ℕ) → List Shown → Type
   pub longer : (c d : SpokenCall) → Longer d c → (ds es : List (List ℕ)) (os ps : List Shown) → After c ds os → After d es ps → SaysDone os → SaysDone ps
       → BeginsWith d c (samplesWritten ps) (samplesWritten os)
 
--- Demand 3 over the definitions, and over the contracts of `diphone::plan` and `diphone::pull` for any list of calls.
+-- Demand 3 over the definitions, over the contracts of `diphone::plan` and `diphone::pull` for any list of calls, and over those of `diphone_plan` and
+-- `diphone_pull`, which a program in C calls.
 pub record Demand3 : Type 0 where
   pub defined : Claim (λ c ds os. os ≡ pullsAfter c ds)
   pub made : Claim MadeAfter
+  pub madeInC : Claim MadeInC
   -- 'a call not refused': a call made is one just where it answers that it is spoken
   pub spoken : (file sheet : List ℕ) (o : Settings) (b after : Buffers) (r : Planned) (m : Summary) → PlanMade file sheet o b r after → r .answer ≡ Spoken m → callRefusal file sheet o b ≡ none
   pub spokenThen : (file sheet : List ℕ) (o : Settings) (b after : Buffers) (r : Planned) → PlanMade file sheet o b r after → callRefusal file sheet o b ≡ none
       → r .answer ≡ Spoken (summaryOf (voiceOf file) (sheetOf sheet) o)
+  -- the same of a call in C, which answers 0; its state and its summary must have room too
+  pub spokenInC : (file sheet : List ℕ) (o : Settings) (h after : Handed) → PlanMadeInC file sheet o h 0 after → callRefusal file sheet o (h .buffers) ≡ none
+  pub spokenInCThen : (file sheet : List ℕ) (o : Settings) (h : Handed) (r : ℕ) (after : Handed) → PlanMadeInC file sheet o h r after → callRefusal file sheet o (h .buffers) ≡ none
+      → stateLength ≤ length (h .state) → reportLength ≤ length (h .summary) → r ≡ 0
