@@ -1,33 +1,18 @@
 -- Document 01, 'Proved examples': what its program prints.
-use mathlib.Core.Path.{_≡_}
-use mathlib.Core.Bool.{true, false}
-use mathlib.Core.List.{List, _++_}
-use mathlib.Core.Option.{Option, none, some}
-use Prim.Native.Nat.{ℕ, _*_, _≤_}
+use mathlib.Core.Bool.{false}
+use mathlib.Core.List.{List}
+use Prim.Native.Nat.{ℕ}
 use lib.Dec.{ltb}
-use lib.ListN.{length, take, replicate}
+use lib.ListN.{length, replicate}
 use Rattle.base.specs.Choice.{pick}
-use Rattle.refusal.specs.declared.Refusal.{Refusal}
 use Rattle.refusal.specs.declared.Refusal.the-variants.{ShortBuffer}
 use Rattle.refusal.specs.Number.{numberOf}
-use Rattle.voice.specs.Header.{inScale}
-use Rattle.voice.specs.Voice.{Voice, voiceOf}
-use Rattle.sheet.specs.Sheet.{Sheet, sheetOf}
-use Rattle.lpc.specs.declared.FilterState.{FilterState}
 use Rattle.lpc.specs.declared.ResynthType.the-variants.{Fixed}
-use Rattle.lpc.specs.Filter.{cut}
-use Rattle.lpc.specs.State.{freshState, periodsBy}
 use Rattle.call.specs.declared.JoinType.the-variants.{Simple}
 use Rattle.call.specs.declared.Settings.{Settings}
-use Rattle.call.specs.declared.Summary.{Summary}
-use Rattle.call.specs.declared.Answer.{Answer}
-use Rattle.call.specs.declared.Answer.the-variants.{Given, Done, Refused}
-use Rattle.call.specs.Call.{periodsOf}
-use Rattle.call.specs.Buffers.{Buffers, lent, callRefusal, summaryOf}
-use Rattle.call.specs.Pull.{Lent, lentOf}
-use Rattle.lines.specs.Lines.{summary, periods, refused}
-
--- ---- the text
+use Rattle.call.specs.Buffers.{Buffers, lent}
+use Rattle.lines.specs.Lines.{refused}
+use Rattle.transcript.specs.CallText.{callText}
 
 -- 'with simple join, fixed filter, no fold'
 abbrev pub settings : Settings
@@ -37,62 +22,9 @@ settings = record { join = Simple; filter = Fixed; fold = false }
 abbrev pub buffers : Buffers
 buffers = lent (replicate 8192 0) (replicate 4096 0) (replicate 4096 0) (replicate 2048 0) (replicate 4096 255) (replicate 1024 0)
 
--- the first line, and a line for each period
-unfoldable pub spokenText : Voice → Sheet → List ℕ
-spokenText v s =
-    let m = summaryOf v s settings in
-    summary (m .rate) (m .periods) (m .samples) ++ periods (periodsOf v s settings)
-
-abbrev pub textBy : Voice → Sheet → Option Refusal → List ℕ
-textBy v s none = spokenText v s
-textBy v s (some r) = refused (numberOf r)
-
--- the text of a call with lent buffers
-unfoldable pub callText : List ℕ → List ℕ → Buffers → List ℕ
-callText file sheet b = textBy (voiceOf file) (sheetOf sheet) (callRefusal file sheet settings b)
-
 -- 'reads `voice.flv` (up to 32,768 bytes) and `call.sht` (up to 4,096), longer ones refused 13 before all else'
 unfoldable pub textOf : List ℕ → List ℕ → List ℕ
 textOf file sheet =
     pick (ltb 32768 (length file)) (refused (numberOf ShortBuffer))
     (pick (ltb 4096 (length sheet)) (refused (numberOf ShortBuffer))
-    (callText file sheet buffers))
-
--- ---- what the steps of the program are handed
-
--- the periods of samples that the pulls from a state give
-unfoldable pub periodsFor : FilterState → Lent → List (List ℕ)
-periodsFor s l = periodsBy (s .filter) (s .«coeff_min») (s .«coeff_range») (cut (s .order) (l .sizes) (l .rows) (l .excitation))
-
--- how many samples a pull gave
-abbrev pub givenBy : Answer → ℕ
-givenBy (Given n) = n
-givenBy Done = 0
-givenBy (Refused r) = 0
-
--- a fresh state, lent all rows of the sizes
-pub record Fresh (s : FilterState) (l : Lent) : Type 0 where
-  pub fresh : s ≡ freshState (s .filter) (s .order) (s .«coeff_min») (s .«coeff_range»)
-  pub orderLow : s .order ≤ 32
-  pub leastIn : inScale (s .«coeff_min») ≡ true
-  pub rangeIn : inScale (s .«coeff_range») ≡ true
-  pub rowsThere : length (l .sizes) * s .order ≤ length (l .rows)
-
--- what a call filled of its buffers
-abbrev pub front : Summary → List ℕ → List ℕ → List ℕ → Lent
-front m sizes rows excitation = lentOf (take (4 * m .periods) sizes) (take (2 * (m .periods * m .order)) rows) (take (m .samples) excitation)
-
--- a call that was not refused left this summary, state and buffers
-pub record Spoke (m : Summary) (s : FilterState) (sizes rows excitation : List ℕ) : Type 0 where
-  pub rateLow : m .rate ≤ 48000
-  pub periodsLow : m .periods ≤ 1024
-  pub samplesLow : m .samples ≤ 4096
-  pub orderLow : m .order ≤ 32
-  pub valuesLow : m .periods * m .order ≤ 32768
-  pub sizesThere : 4 * m .periods ≤ length sizes
-  pub rowsThere : 2 * (m .periods * m .order) ≤ length rows
-  pub excitationThere : m .samples ≤ length excitation
-  pub fresh : Fresh s (front m sizes rows excitation)
-
-unfoldable pub spokenBy : Summary → FilterState → List ℕ → List ℕ → List ℕ → List ℕ
-spokenBy m s sizes rows excitation = summary (m .rate) (m .periods) (m .samples) ++ periods (periodsFor s (front m sizes rows excitation))
+    (callText file sheet settings buffers))

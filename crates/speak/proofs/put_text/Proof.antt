@@ -1,11 +1,19 @@
+use mathlib.Core.Path.{sym}
+use mathlib.Core.List.{List}
+use Prim.Native.Nat.{ℕ, _≤_}
 use native.Mathlib.Omega.{arith}
 use borrow.Author.Tests.{lt-ltb, le-ltb}
+use lib.ListN.{length}
+use Rattle.io.specs.Counts.{Counts}
 use Rattle.lines.proofs.PutLaws.{put-length}
 use Rattle.speak.specs.Speaking.{textOf}
-use Rattle.speak.proofs.CallLaws.{counts-by}
+use Rattle.transcript.proofs.CallLaws.{taken-length}
 use borrow.Author.Needs.{needs}
 use Rattle.speak.proofs.put_text.Statement.{statement}
 use Rattle.speak.proofs.put_text.Tie as tie
+
+counts-by : (n : ℕ) (s : List ℕ) → n ≤ length s → Counts n s
+counts-by n s h = (h, sym (taken-length n s h))
 
 number-requires : tie.Need-number-requires
 number-requires c κs = search needs

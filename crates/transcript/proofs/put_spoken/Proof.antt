@@ -1,11 +1,11 @@
 use Prim.Native.Nat.{_*_}
 use native.Mathlib.Omega.{arith}
 use Rattle.lines.proofs.PutLaws.{put-more, put-length}
-use Rattle.speak.specs.Speaking.{spokenBy}
-use Rattle.speak.proofs.CallLaws.{taken-length}
+use Rattle.transcript.specs.CallText.{spokenBy}
+use Rattle.transcript.proofs.CallLaws.{taken-length}
 use borrow.Author.Needs.{needs}
-use Rattle.speak.proofs.put_spoken.Statement.{statement}
-use Rattle.speak.proofs.put_spoken.Tie as tie
+use Rattle.transcript.proofs.put_spoken.Statement.{statement}
+use Rattle.transcript.proofs.put_spoken.Tie as tie
 
 cast-put-summary : tie.Need-cast-put-summary
 cast-put-summary c = search needs

@@ -30,7 +30,7 @@ use Rattle.call.proofs.PullLaws.{pull-impossible, pull-done, pull-gives, shows-
 use Rattle.call.proofs.MachineLaws.{shows-done-all, shows-refused}
 use Rattle.lines.specs.Lines.{Puts, period, periods}
 use Rattle.lines.proofs.PutLaws.{put-none, put-more, put-length}
-use Rattle.speak.specs.Speaking.{periodsFor, givenBy, Fresh}
+use Rattle.transcript.specs.CallText.{periodsFor, givenBy, Fresh}
 
 -- ---- one pull
 

@@ -1,3 +1,3 @@
--- The root of speak's laws.
+-- The root of transcript's laws.
 pub mod TurnLaws
 pub mod CallLaws

@@ -3,10 +3,10 @@ use native.Mathlib.Omega.{arith}
 use Prim.Native.Nat.{ℕ, _/_, _-_}
 use lib.ListN.{length, length-replicate}
 use Rattle.call.specs.Pull.{lentOf}
-use Rattle.speak.specs.Speaking.{periodsFor}
-use Rattle.speak.proofs.TurnLaws.{At, start, turn-by, end-by}
-use Rattle.speak.proofs.put_periods.Statement.{statement}
-use Rattle.speak.proofs.put_periods.Tie as tie
+use Rattle.transcript.specs.CallText.{periodsFor}
+use Rattle.transcript.proofs.TurnLaws.{At, start, turn-by, end-by}
+use Rattle.transcript.proofs.put_periods.Statement.{statement}
+use Rattle.transcript.proofs.put_periods.Tie as tie
 
 abbrev Inv-loop : tie.InvT-loop
 Inv-loop sizes rows excitation out₀ at samples₀ before₀ end₀ number₀ out samples before end number =

@@ -1,8 +1,8 @@
 use native.Mathlib.Omega.{arith}
-use Rattle.speak.proofs.CallLaws.{hands, refused-text, refused-low}
+use Rattle.transcript.proofs.CallLaws.{hands, refused-text, refused-low}
 use borrow.Author.Needs.{needs}
-use Rattle.speak.proofs.put_call.Statement.{statement}
-use Rattle.speak.proofs.put_call.Tie as tie
+use Rattle.transcript.proofs.put_call.Statement.{statement}
+use Rattle.transcript.proofs.put_call.Tie as tie
 
 plan-requires : tie.Need-plan-requires
 plan-requires c κs = search needs
@@ -14,7 +14,7 @@ put-spoken-requires : tie.Need-put-spoken-requires
 put-spoken-requires c κs =
     let l = c .before .before .before .before .before .before .before .before .before .before .before .before .before .before .before .before .before .before .before .before in
     let x = l .before .before .before .before .before .before .before .before .before .before .before .before .before .before .before .before in
-    let h = hands _ _ _ _ (l .plan .ensures .0) (λ i. let z = l .before .before .before .before .before .before .before .before .before .before .before .before .before .before .before .shared-slice-known .given i in omega arith) _ (l .plan .ensures .1) _ (c .before .before .before .before .before .answer .given .1) (x .pre .0) (x .pre .1 .0) in
+    let h = hands _ _ _ _ _ (l .plan .ensures .0) (λ i. let z = l .before .before .before .before .before .before .before .before .before .before .before .before .before .before .before .shared-slice-known .given i in omega arith) _ (l .plan .ensures .1) _ (c .before .before .before .before .before .answer .given .1) (x .pre .0) (x .pre .1 .0) in
     (h .spoke, x .pre .1 .1)
 
 enum-known-answer-2 : tie.Need-enum-known-answer-2
@@ -51,7 +51,7 @@ returns : tie.Need-returns
 returns c =
     let l = c .before .before .before .before .before .before .before .before .before .before .before .before .before .before .before .before .before .before .before .before .before .before .before in
     let x = l .before .before .before .before .before .before .before .before .before .before .before .before .before .before .before .before in
-    let h = hands _ _ _ _ (l .plan .ensures .0) (λ i. let z = l .before .before .before .before .before .before .before .before .before .before .before .before .before .before .before .shared-slice-known .given i in omega arith) _ (l .plan .ensures .1) _ (c .before .before .before .before .before .before .before .before .answer .given .1) (x .pre .0) (x .pre .1 .0) in
+    let h = hands _ _ _ _ _ (l .plan .ensures .0) (λ i. let z = l .before .before .before .before .before .before .before .before .before .before .before .before .before .before .before .shared-slice-known .given i in omega arith) _ (l .plan .ensures .1) _ (c .before .before .before .before .before .before .before .before .answer .given .1) (x .pre .0) (x .pre .1 .0) in
     let p = c .before .before .put-spoken .ensures in
     (rw (h .text) at (p .0), p .1)
 
@@ -79,7 +79,7 @@ same-length-14 c = search needs
 returns-2 : tie.Need-returns-2
 returns-2 c =
     let p = c .before .before .put-refused .ensures in
-    let e = refused-text _ _ _ _ (c .before .before .before .before .before .before .before .before .before .before .before .before .before .before .before .before .before .before .before .before .before .plan .ensures .0) _ (c .before .before .before .before .before .before .answer2 .given .1) in
+    let e = refused-text _ _ _ _ _ (c .before .before .before .before .before .before .before .before .before .before .before .before .before .before .before .before .before .before .before .before .before .plan .ensures .0) _ (c .before .before .before .before .before .before .answer2 .given .1) in
     let n = c .before .before .before .before .number .ensures in
     (rw e (rw n at (p .0)), omega (arith, p .1))
 

@@ -1,4 +1,4 @@
--- What a call of the program leaves, and its text.
+-- What a call leaves, and its text.
 use mathlib.Core.Path.{_≡_, refl, sym, ap, subst, _∙_}
 use mathlib.Core.Bool.{Bool, true, false}
 use mathlib.Core.List.{List, [], _∷_, _++_}
@@ -37,13 +37,12 @@ use Rattle.call.specs.Pull.{Lent, lentOf}
 use Rattle.planning.proofs.PlanLaws.{spoken-buffers}
 use Rattle.law.specs.SpokenCall.{SpokenCall, bytesAfter}
 use Rattle.law.proofs.LentLaws.{lentTaken, lent-filled}
-use Rattle.io.specs.Counts.{Counts}
 use Rattle.lines.specs.Lines.{summary, periods, refused}
-use Rattle.speak.specs.Speaking.{settings, spokenText, textBy, callText, periodsFor, Fresh, front, Spoke, spokenBy}
+use Rattle.transcript.specs.CallText.{spokenText, textBy, callText, periodsFor, Fresh, front, Spoke, spokenBy}
 
 -- ---- a call that is not refused
 
-module _ (file sheet : List ℕ) (b : Buffers) (bytes : Bytes file) (n : callRefusal file sheet settings b ≡ none) where
+module _ (file sheet : List ℕ) (settings : Settings) (b : Buffers) (bytes : Bytes file) (n : callRefusal file sheet settings b ≡ none) where
   abbrev v : Voice
   v = voiceOf file
 
@@ -156,44 +155,44 @@ module _ (file sheet : List ℕ) (b : Buffers) (bytes : Bytes file) (n : callRef
         fresh = subst (Fresh (freshOf v settings)) (sym lent-is) fresh-lent;
       }
 
-  text-is : spokenBy (summaryOf v s settings) (freshOf v settings) (after .sizes) (after .rows) (after .excitation) ≡ callText file sheet b
+  text-is : spokenBy (summaryOf v s settings) (freshOf v settings) (after .sizes) (after .rows) (after .excitation) ≡ callText file sheet settings b
   unfolding spokenBy callText spokenText periodsFor freshOf freshState periodsOf
   text-is = rw (n, lent-is)
 
 -- ---- by what the call answered
 
-answer-none : (v : Voice) (s : Sheet) (m : Summary) (u : Option Refusal) → answerBy v s settings u .answer ≡ Spoken m → u ≡ none
-answer-none v s m none e = refl
-answer-none v s m (some c) e = let z : _≡_ {A = ℕ} 0 1 = cc in absurd (omega arith)
+answer-none : (v : Voice) (s : Sheet) (settings : Settings) (m : Summary) (u : Option Refusal) → answerBy v s settings u .answer ≡ Spoken m → u ≡ none
+answer-none v s settings m none e = refl
+answer-none v s settings m (some c) e = let z : _≡_ {A = ℕ} 0 1 = cc in absurd (omega arith)
 
-answer-some : (v : Voice) (s : Sheet) (c : Refusal) (u : Option Refusal) → answerBy v s settings u .answer ≡ Refused c → u ≡ some c
-answer-some v s c none e = let z : _≡_ {A = ℕ} 0 1 = cc in absurd (omega arith)
-answer-some v s c (some d) e = cc
+answer-some : (v : Voice) (s : Sheet) (settings : Settings) (c : Refusal) (u : Option Refusal) → answerBy v s settings u .answer ≡ Refused c → u ≡ some c
+answer-some v s settings c none e = let z : _≡_ {A = ℕ} 0 1 = cc in absurd (omega arith)
+answer-some v s settings c (some d) e = cc
 
 same-summary : {m n : Summary} → _≡_ {A = Called} (Spoken m) (Spoken n) → m ≡ n
 same-summary e = cc
 
 -- a spoken call hands on what its lines need, and these are its text
-pub record Hands (file sheet : List ℕ) (b : Buffers) (m : Summary) (t : FilterState) (sizes rows excitation : List ℕ) : Type 0 where
+pub record Hands (file sheet : List ℕ) (settings : Settings) (b : Buffers) (m : Summary) (t : FilterState) (sizes rows excitation : List ℕ) : Type 0 where
   pub spoke : Spoke m t sizes rows excitation
-  pub text : spokenBy m t sizes rows excitation ≡ callText file sheet b
+  pub text : spokenBy m t sizes rows excitation ≡ callText file sheet settings b
 
-module _ (file sheet : List ℕ) (b : Buffers) (r : Planned) (e : r ≡ plannedOf file sheet settings b) where
-  pub refused-text : (c : Refusal) → r .answer ≡ Refused c → callText file sheet b ≡ refused (numberOf c)
+module _ (file sheet : List ℕ) (settings : Settings) (b : Buffers) (r : Planned) (e : r ≡ plannedOf file sheet settings b) where
+  pub refused-text : (c : Refusal) → r .answer ≡ Refused c → callText file sheet settings b ≡ refused (numberOf c)
   unfolding plannedOf callText
   refused-text c q =
-      let n : callRefusal file sheet settings b ≡ some c = answer-some (voiceOf file) (sheetOf sheet) c _ (ap (λ (p : Planned). p .answer) (sym e) ∙ q) in
+      let n : callRefusal file sheet settings b ≡ some c = answer-some (voiceOf file) (sheetOf sheet) settings c _ (ap (λ (p : Planned). p .answer) (sym e) ∙ q) in
       rw n
 
   pub hands : Bytes file → (after : Buffers) → after ≡ buffersAfter file sheet settings b → (m : Summary) → r .answer ≡ Spoken m → length (b .sizes) ≤ 4096 → length (b .excitation) ≤ 4096
-      → Hands file sheet b m (r .state) (after .sizes) (after .rows) (after .excitation)
+      → Hands file sheet settings b m (r .state) (after .sizes) (after .rows) (after .excitation)
   unfolding plannedOf
   hands bytes after a m q h k =
-      let n : callRefusal file sheet settings b ≡ none = answer-none (voiceOf file) (sheetOf sheet) m _ (ap (λ (p : Planned). p .answer) (sym e) ∙ q) in
+      let n : callRefusal file sheet settings b ≡ none = answer-none (voiceOf file) (sheetOf sheet) settings m _ (ap (λ (p : Planned). p .answer) (sym e) ∙ q) in
       let p : r ≡ answerBy (voiceOf file) (sheetOf sheet) settings none = e ∙ rw n in
       let i : m ≡ summaryOf (voiceOf file) (sheetOf sheet) settings = same-summary (sym q ∙ ap (λ (p : Planned). p .answer) p) in
       let t : r .state ≡ freshOf (voiceOf file) settings = ap (λ (p : Planned). p .state) p in
-      rw (i, t, a) (record { spoke = spoke file sheet b bytes n h k; text = text-is file sheet b bytes n })
+      rw (i, t, a) (record { spoke = spoke file sheet settings b bytes n h k; text = text-is file sheet settings b bytes n })
 
 number-low : (c : Refusal) → numberOf c < 100000
 number-low BadMagic = omega arith
@@ -214,9 +213,6 @@ number-low BadState = omega arith
 
 pub taken-length : (n : ℕ) (s : List ℕ) → n ≤ length s → length (take n s) ≡ n
 taken-length n s h = rw length-take (omega arith)
-
-pub counts-by : (n : ℕ) (s : List ℕ) → n ≤ length s → Counts n s
-counts-by n s h = (h, sym (taken-length n s h))
 
 pub refused-low : {a : Called} {c : Refusal} {n : ℕ} → a ≡ Refused c → n ≡ numberOf c → n < 100000
 refused-low {a} {c} e q = rw q (number-low c)

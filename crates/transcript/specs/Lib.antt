@@ -1,0 +1,2 @@
+-- The root of transcript's definitions.
+pub mod CallText
