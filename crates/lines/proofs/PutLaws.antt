@@ -4,10 +4,10 @@ use mathlib.Core.List.{List, [], _∷_, _++_}
 use Prim.Native.Nat.{ℕ, _+_, _*_, _≤_, _<_}
 use native.Mathlib.Nat.{zero-add}
 use native.Mathlib.Omega.{arith}
-use lib.ListN.{length, length-append}
+use lib.ListN.{length, take, length-append}
 use lib.Seq.{sets, length-sets}
 use Rattle.base.specs.Buffers.{over, flat, upto}
-use Rattle.base.proofs.BufferLaws.{sets-append, sets-over, upto-more, flat-snoc}
+use Rattle.base.proofs.BufferLaws.{take-over, sets-append, sets-over, upto-more, flat-snoc}
 use Rattle.lines.specs.Lines.{Puts, next}
 
 pub put-none : (d : List ℕ) (at : ℕ) → Puts d at [] d at
@@ -24,6 +24,12 @@ put-more {d} {e} {f} {s} {t} {at} {i} {j} p q =
 -- a text that was copied to the front
 pub put-front : (s d : List ℕ) {e : List ℕ} → length s ≤ length d → e ≡ over s d → Puts d 0 s e (length s)
 put-front s d h q = record { left = q ∙ sym (sets-over s d h); ended = sym (zero-add (length s)) }
+
+-- a text that was put to the front, read back
+pub put-taken : {d e s : List ℕ} {n : ℕ} → Puts d 0 s e n → n ≤ length d → take n e ≡ s
+put-taken {d} {e} {s} {n} p h =
+    let l : length s ≡ n = omega (arith, p .ended) in
+    ap (take n) (p .left ∙ sets-over s d (omega arith)) ∙ take-over s d n l
 
 -- a buffer keeps its length
 pub put-length : {d e s : List ℕ} {at i : ℕ} → Puts d at s e i → length e ≡ length d

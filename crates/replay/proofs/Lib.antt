@@ -1,0 +1,3 @@
+-- The root of replay's laws.
+pub mod StoredLaws
+pub mod TallyLaws

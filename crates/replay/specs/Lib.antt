@@ -1,0 +1,3 @@
+-- The root of replay's definitions.
+pub mod Stored
+pub mod Tallies
