@@ -55,8 +55,13 @@ static size_t take_single_mark(const struct source *source, cst_voice *phones) {
         stop("the engine refused a made-up call");
     speak_in_steps(utterance, &SETTING[1], 0, NULL, none);
     int theirs = periods_of(utterance)->num_frames;
-    printf("\na single pitch mark: %d period in flite, %d here\n", theirs, (int)speech.periods);
-    return theirs != 1 || speech.periods != 0;
+    size_t ours = speech.periods;
+    printf("\na single pitch mark: %d period in flite, %zu here\n", theirs, ours);
+    release_speech(&speech);
+    release(&voice);
+    release(&sheet);
+    delete_utterance(utterance);
+    return theirs != 1 || ours != 0;
 }
 
 /* Mu-law by G.711 as document 01 reads it: the segment is the place of the highest bit, less 7. */
