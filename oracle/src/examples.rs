@@ -8,6 +8,7 @@ use crate::dsp::{i16_to_ulaw, ulaw_to_i16};
 use crate::gen::damaged_calls::two_periods;
 use crate::gen::voices::{file, plain, VoiceSpec};
 use crate::gen::PHONES;
+use crate::lines;
 use crate::phoneset;
 use crate::reference::{self, Parsed};
 use crate::report::Report;
@@ -97,24 +98,17 @@ fn phones(report: &mut Report) {
 fn printed(report: &mut Report) {
     let bytes = [2, 3, 112, 97, 117, 2, 0, 2, 97, 97, 2, 0, 0];
     let spec = two_periods(8000);
-    let lines = match sheet::read(&bytes) {
+    let printed = match sheet::read(&bytes) {
         Ok(sheet) => speak_lines(&opened(&spec), &sheet),
-        Err(refusal) => format!("refused {}", refusal.number()),
+        Err(refusal) => lines::refused(refusal.number()),
     };
     let expected = "8000 2 5\n1 2 8 132\n2 3 0 -8 -132\n".to_string();
-    report.equal(&expected, &lines, || "printed example".into());
+    report.equal(&expected, &printed, || "printed example".into());
 }
 
-/// Rate, periods and samples, then each period with its number and size.
 fn speak_lines(voice: &DiphoneVoice, sheet: &Sheet) -> String {
     let periods = reference::speak(voice, sheet, Settings::new(Join::Simple));
-    let samples: usize = periods.iter().map(Vec::len).sum();
-    let mut lines = format!("{} {} {samples}\n", voice.sample_rate(), periods.len());
-    for (i, period) in periods.iter().enumerate() {
-        let values: Vec<String> = period.iter().map(i16::to_string).collect();
-        lines += &format!("{} {} {}\n", i + 1, period.len(), values.join(" "));
-    }
-    lines
+    lines::spoken(voice.sample_rate() as usize, &periods)
 }
 
 fn voice_of(offsets: &[u32], residual: &[u8]) -> VoiceSpec {

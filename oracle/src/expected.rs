@@ -232,7 +232,12 @@ impl Given {
 impl Spoken {
     /// Whether each buffer has enough whole elements.
     pub fn fits(&self, lent: &Buffers) -> bool {
-        (0..6).all(|i| self.needed[i] <= lent[i].len() / WIDTHS[i])
+        self.fits_in(&std::array::from_fn(|i| lent[i].len()))
+    }
+
+    /// The same, of buffers of so many bytes.
+    pub fn fits_in(&self, lengths: &[usize; 6]) -> bool {
+        (0..6).all(|i| self.needed[i] <= lengths[i] / WIDTHS[i])
     }
 
     /// With buffers that are long enough, and a slice for each pull.

@@ -26,6 +26,7 @@ mod floats;
 mod gen;
 mod good;
 mod lent;
+mod lines;
 #[cfg(feature = "probe_call")]
 mod marking;
 #[cfg(all(feature = "diphone_c", feature = "probe_voice"))]
@@ -51,6 +52,7 @@ mod speech;
 mod statements;
 #[cfg(feature = "probe_state")]
 mod states;
+mod store;
 #[cfg(feature = "probe")]
 mod voicecodes;
 mod voicefile;
@@ -62,6 +64,7 @@ use std::process::ExitCode;
 const USAGE: &str = "usage:
   oracle self [--seed N] [--count N]
   oracle statements [--seed N] [--from N] [--count N] --out FILE
+  oracle store [--seed N] [--count N] --out FILE
   oracle floats [--seed N] [--count N] [--all]
   oracle codecs [--seed N] [--count N]
   oracle codecs --codes FILE [--count N]
@@ -85,6 +88,7 @@ fn main() -> ExitCode {
     let agreed = match command.as_str() {
         "self" => selfcheck::run(&args),
         "statements" => statements::run(&args),
+        "store" => store::run(&args),
         #[cfg(feature = "probe")]
         "floats" => floats::run(&args),
         #[cfg(feature = "probe")]

@@ -1,5 +1,5 @@
-// Makes stored calls again and compares their texts with those that the Rust's answers made. The file
-// `calls` has one call after the other; specs/Stored.antt says how.
+// Makes stored calls and compares their texts with those that the Rust's answers made. data/README tells
+// what is in the file `calls`, and its format.
 ghost use mathlib.Core.Path.{_≡_};
 ghost use Prim.Native.Nat.{_+_, _<_, _≤_};
 ghost use lib.ListN.{length, getD};

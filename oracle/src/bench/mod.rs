@@ -19,9 +19,10 @@ const REPEATED: [usize; 5] = [1, 2, 4, 8, 16];
 
 pub fn run(args: &Args) -> bool {
     let rounds = args.count.unwrap_or(ROUNDS).max(1) as usize;
-    let given = match (&args.voice, &args.sheets) {
-        (None, None) => synthetic::voices(args.seed),
-        _ => match real::files(args) {
+    let generated = args.voice.is_none() && args.sheets.is_none();
+    let given = match generated {
+        true => synthetic::voices(args.seed),
+        false => match real::files(args) {
             Ok(files) => vec![(args.voice.clone().unwrap_or_default(), files)],
             Err(message) => {
                 println!("oracle: {message}");
@@ -31,6 +32,12 @@ pub fn run(args: &Args) -> bool {
     };
     for (name, files) in given {
         bench(&name, files, rounds, args.only.as_deref());
+    }
+    if generated && args.only.is_none() {
+        println!("oracle bench: the same sheets on wider voices; µs a call, best: here, the Rust");
+        for (times, files) in synthetic::wider(args.seed) {
+            widened(times, files, rounds);
+        }
     }
     true
 }
@@ -128,4 +135,33 @@ fn grown(voice: &'static [u8], sheet: &Sheet, times: usize, settings: Settings, 
         long.segments.len(),
         call.samples,
     );
+}
+
+/// The cost of sheets on a voice several times as large.
+fn widened(times: usize, files: Files, rounds: usize) {
+    let voice: &'static [u8] = Box::leak(files.voice.into_boxed_slice());
+    let sheets: Vec<Sheet> = files.sheets.iter().map(|(name, bytes)| read(name, bytes)).collect();
+    for settings in settings(None).into_iter().filter(|s| s.filter == Filter::Fixed) {
+        let mut calls: Vec<Timed> = sheets
+            .iter()
+            .map(|sheet| Timed::new(voice, sheet, settings))
+            .collect();
+        for _ in 0..rounds {
+            calls.iter_mut().for_each(Timed::round);
+        }
+        let each = |part: Part| -> f64 {
+            let total: f64 = calls.iter().map(|call| call.costs.at(&[part], 0)).sum();
+            total * 1e6 / calls.len() as f64
+        };
+        let [open, plan, pulls] = [Part::Open, Part::Plan, Part::Pulls].map(each);
+        let [parse, whole] = [Part::RustParse, Part::RustWhole].map(each);
+        println!(
+            "  {} x, {}: open {open:7.1}, plan without it {:7.1}, pulls {pulls:8.1}; \
+             {parse:7.1}, without it {:8.1}",
+            times,
+            label(settings),
+            plan - open,
+            whole - parse,
+        );
+    }
 }

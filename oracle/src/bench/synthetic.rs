@@ -13,6 +13,9 @@ const ENTRIES: usize = 1_623;
 /// Frames of an entry; the last entries have those that are left over.
 const HALVES: [u8; 2] = [5, 6];
 
+/// A wider voice has so many times the frames and entries.
+const WIDER: [usize; 3] = [1, 2, 3];
+
 const SHEETS: usize = 20;
 const SEGMENTS: usize = 40;
 /// Of a segment and from target to target, in seconds.
@@ -67,6 +70,38 @@ fn voice(rng: &mut Rng, g721: bool) -> VoiceSpec {
     spec.sizes = g721.then_some(sizes);
     spec.entries = entries();
     spec
+}
+
+/// The mu-law voice, and the same several times as large: its frames repeated,
+/// and as many entries more, which no sheet names. The sheets are the same.
+pub fn wider(seed: u64) -> Vec<(usize, Files)> {
+    let rng = &mut Rng::for_case(seed, 9_500_001);
+    let voice = voice(rng, false);
+    let sheets: Vec<(String, Vec<u8>)> = (0..SHEETS)
+        .map(|i| (format!("sheet {i}"), sheet::write(&sheet(rng))))
+        .collect();
+    let files = |times| {
+        let voice = voices::file(&widened(&voice, times).sections());
+        (times, Files { voice, sheets: sheets.clone() })
+    };
+    WIDER.map(files).into()
+}
+
+fn widened(voice: &VoiceSpec, times: usize) -> VoiceSpec {
+    let mut wide = voice.clone();
+    wide.header.frames *= times as u32;
+    for turn in 1..times {
+        let before = wide.residual.len() as u32;
+        wide.rows.extend(&voice.rows);
+        wide.residual.extend(&voice.residual);
+        wide.offsets.extend(voice.offsets[1..].iter().map(|offset| before + offset));
+        let more = voice.entries.iter().enumerate().map(|(i, entry)| EntrySpec {
+            name: format!("~{turn}-{i:04}").into_bytes(),
+            ..entry.clone()
+        });
+        wide.entries.extend(more);
+    }
+    wide
 }
 
 /// Pairs of phones in the order of their names.

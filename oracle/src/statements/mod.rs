@@ -22,12 +22,19 @@ const CALLS: u64 = 30;
 const MOST_DRAWS: usize = 20_000;
 
 /// A call as it is made.
-struct Call {
-    voice: Vec<u8>,
-    sheet: Vec<u8>,
-    settings: Settings,
-    lent: Buffers,
+pub struct Call {
+    pub voice: Vec<u8>,
+    pub sheet: Vec<u8>,
+    pub settings: Settings,
+    pub lent: Buffers,
     slices: Vec<Vec<u8>>,
+}
+
+/// A call, what it is, and what it must show.
+pub struct Drawn {
+    pub call: Call,
+    pub about: String,
+    shown: Expected,
 }
 
 pub fn run(args: &Args) -> bool {
@@ -39,7 +46,8 @@ pub fn run(args: &Args) -> bool {
     let end = args.from + args.count.unwrap_or(CALLS);
     let mut text = antt::HEAD.to_string();
     for number in args.from..end {
-        text += &statement(args.seed, number, &limits);
+        let drawn = drawn(args.seed, number, &limits);
+        text += &antt::statement(number, &drawn.about, &drawn.call, &drawn.shown);
     }
     if let Err(error) = std::fs::write(out, text) {
         eprintln!("oracle statements: {out}: {error}");
@@ -54,23 +62,22 @@ pub fn run(args: &Args) -> bool {
     true
 }
 
-/// The statement of one number. It depends on the seed and the number only.
-fn statement(seed: u64, number: u64, limits: &Limits) -> String {
+/// The call of one number. It depends on the seed and the number only.
+pub fn drawn(seed: u64, number: u64, limits: &Limits) -> Drawn {
     let kinds = kinds::all();
     let kind = kinds[number as usize % kinds.len()];
     let rng = &mut Rng::for_case(seed, 3_000_000 + number);
     for _ in 0..MOST_DRAWS {
         let tried = drafts::draft(rng, kind, limits).and_then(|draft| judged(rng, kind, draft));
-        if let Some((call, about, shown)) = tried {
-            return antt::statement(number, &about, &call, &shown);
+        if let Some(drawn) = tried {
+            return drawn;
         }
     }
     panic!("no call {number} of {kind:?} in {MOST_DRAWS} draws");
 }
 
-/// The call with its buffers and slices, what it is, and what it must show.
-/// Nothing where it is not of its kind.
-fn judged(rng: &mut Rng, kind: Kind, draft: Draft) -> Option<(Call, String, Expected)> {
+/// The call with its buffers and slices. Nothing where it is not of its kind.
+fn judged(rng: &mut Rng, kind: Kind, draft: Draft) -> Option<Drawn> {
     let given = expected::given(&draft.voice, &draft.sheet, draft.settings, kind.most())?;
     let lent = lent::lend(rng, &given.needed(), draft.room)?;
     let (slices, shown) = match &given {
@@ -92,5 +99,5 @@ fn judged(rng: &mut Rng, kind: Kind, draft: Draft) -> Option<(Call, String, Expe
         lent,
         slices,
     };
-    Some((call, about, shown))
+    Some(Drawn { call, about, shown })
 }
