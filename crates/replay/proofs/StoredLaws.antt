@@ -5,9 +5,11 @@ use mathlib.Core.List.{List}
 use Prim.Native.Nat.{ℕ, zero, suc, _+_, _-_, _≤_, _<_}
 use native.Mathlib.Omega.{arith}
 use native.Mathlib.Numerals.{add-one}
+use native.Mathlib.Nat.{zero-add}
 use borrow.Author.Tests.{leb-true, le-leb}
 use lib.Dec.{leb}
-use lib.ListN.{length, getD, take, replicate, length-take, length-replicate}
+use lib.ListN.{length, getD, take, replicate, drop, length-take, length-replicate, drop-of-length-le}
+use lib.Seq.{drop-cons}
 use Rattle.base.proofs.CaseLaws.{by-order}
 use Rattle.base.proofs.ListLaws.{and-left, and-right}
 use Rattle.text.specs.Names.{same}
@@ -19,7 +21,7 @@ use Rattle.transcript.specs.CallText.{callText}
 use Rattle.transcript.proofs.CallLaws.{taken-length}
 use Rattle.replay.specs.declared.Found.{Found}
 use Rattle.replay.specs.declared.Found.the-variants.{Call}
-use Rattle.replay.specs.Stored.{settingsOf, lengthAt, limits, fitting, fits, buffersOf, textOf, kindUpTo, Sound}
+use Rattle.replay.specs.Stored.{settingsOf, lengthAt, limits, fitting, fits, buffersOf, textOf, kindUpTo, lineEnd, linesIn, Sound}
 
 -- ---- lengths and limits
 
@@ -93,7 +95,30 @@ module _ (text : List ℕ) where
   kind-below zero h e = absurd (omega arith)
   kind-below (suc n) h e = let q : suc n - 1 ≡ n = omega arith in rw (e, q)
 
+-- ---- lines: after i bytes
+
+pub record Lines (text : List ℕ) (n i : ℕ) : Type 0 where
+  pub most : i ≤ length text
+  pub counted : n + linesIn (drop i text) ≡ linesIn text
+  pub low : n ≤ i
+
+module _ (text : List ℕ) where
+  pub lines-none : Lines text 0 0
+  lines-none = record { most = omega arith; counted = zero-add (linesIn text); low = omega arith }
+
+  pub lines-more : {n m : ℕ} (i : ℕ) → Lines text n i → i < length text → m ≡ lineEnd (getD text i 0) → m ≤ 1 → Lines text (n + m) (i + 1)
+  unfolding linesIn
+  lines-more {n} {m} i l h e b =
+      let c : n + (lineEnd (getD text i 0) + linesIn (drop (suc i) text)) ≡ linesIn text = rw (drop-cons text i 0 h) at (l .counted) in
+      record { most = omega arith; counted = rw (add-one, e) (omega (arith, c)); low = omega (arith, l .low, b) }
+
+  pub lines-all : {n : ℕ} (i : ℕ) → Lines text n i → length text ≤ i → (n ≡ linesIn text) × (n ≤ length text)
+  unfolding linesIn
+  lines-all {n} i l h =
+      let c : n + 0 ≡ linesIn text = rw (drop-of-length-le text {i = i} h) at (l .counted) in
+      (omega (arith, c), omega (arith, l .low, l .most))
+
 -- ---- what is found
 
-pub found-sound : {f : Found} {v kind : ℕ} {agrees : Bool} → f ≡ Call v kind agrees → Sound f → (v ≤ 32768) × (kind < 14)
+pub found-sound : {f : Found} {v kind periods : ℕ} {agrees : Bool} → f ≡ Call v kind periods agrees → Sound f → (v ≤ 32768) × ((kind < 14) × (periods ≤ 41000))
 found-sound e s = subst Sound e s

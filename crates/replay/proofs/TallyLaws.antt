@@ -17,7 +17,7 @@ zeros (suc n) zero = refl
 zeros (suc n) (suc k) = zeros n k
 
 pub none-sound : Sound none
-none-sound = record { wrong = omega arith; kinds = λ k. rw (zeros 14 k) (omega arith); whole = length-replicate {A = ℕ} 14 0 }
+none-sound = record { wrong = omega arith; kinds = λ k. rw (zeros 14 k) (omega arith); whole = length-replicate {A = ℕ} 14 0; periods = omega arith }
 
 one-more : (xs : List ℕ) (i k n : ℕ) → i < length xs → ((j : ℕ) → getD xs j 0 ≤ n) → getD (set xs i (getD xs i 0 + 1)) k 0 ≤ n + 1
 one-more xs i k n h low = by (eqb k i) refl
@@ -33,21 +33,23 @@ wrong-more : (t : Tally) (agrees : Bool) → t .wrong ≤ t .calls → wrongWith
 wrong-more t true h = omega arith
 wrong-more t false h = omega arith
 
-pub counted-sound : (t : Tally) (kind : ℕ) (agrees : Bool) → Sound t → kind < 14 → Sound (counted t kind agrees)
+pub counted-sound : (t : Tally) (kind periods : ℕ) (agrees : Bool) → Sound t → kind < 14 → periods ≤ 65536 → Sound (counted t kind periods agrees)
 unfolding counted
-counted-sound t kind agrees s h =
+counted-sound t kind periods agrees s h l =
     let w = s .whole in
+    let p = s .periods in
     record {
       wrong = wrong-more t agrees (s .wrong);
       kinds = λ k. one-more (t .kinds) kind k (t .calls) (omega arith) (s .kinds);
       whole = length-set (t .kinds) kind (getD (t .kinds) kind 0 + 1) ∙ w;
+      periods = omega arith;
     }
 
-pub counted-by : (t : Tally) (kind : ℕ) (agrees : Bool) {w f : ℕ} → w ≡ wrongWith t agrees → f ≡ firstWith t agrees
-    → record { calls = t .calls + 1; wrong = w; first = f; kinds = set (t .kinds) kind (getD (t .kinds) kind 0 + 1) } ≡ counted t kind agrees
+pub counted-by : (t : Tally) (kind periods : ℕ) (agrees : Bool) {w f : ℕ} → w ≡ wrongWith t agrees → f ≡ firstWith t agrees
+    → record { calls = t .calls + 1; wrong = w; first = f; kinds = set (t .kinds) kind (getD (t .kinds) kind 0 + 1); periods = t .periods + periods } ≡ counted t kind periods agrees
 unfolding counted
-counted-by t kind agrees ew ef = rw (ew, ef)
+counted-by t kind periods agrees ew ef = rw (ew, ef)
 
-pub counted-calls : {r : Tally} (t : Tally) (kind : ℕ) (agrees : Bool) → r ≡ counted t kind agrees → r .calls ≡ t .calls + 1
+pub counted-calls : {r : Tally} (t : Tally) (kind periods : ℕ) (agrees : Bool) → r ≡ counted t kind periods agrees → r .calls ≡ t .calls + 1
 unfolding counted
-counted-calls t kind agrees e = ap (λ (u : Tally). u .calls) e
+counted-calls t kind periods agrees e = ap (λ (u : Tally). u .calls) e

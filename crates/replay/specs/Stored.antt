@@ -3,8 +3,8 @@
 use mathlib.Core.Path.{_≡_}
 use mathlib.Core.Bool.{Bool, true, _&&_}
 use mathlib.Core.List.{List, [], _∷_}
-use Prim.Native.Nat.{ℕ, zero, suc, _+_, _/_, _%_, _≤_, _<_}
-use lib.Dec.{leb}
+use Prim.Native.Nat.{ℕ, zero, suc, _+_, _-_, _/_, _%_, _≤_, _<_}
+use lib.Dec.{eqb, leb}
 use lib.ListN.{length, getD, take, replicate}
 use Rattle.base.specs.Choice.{pick}
 use Rattle.base.specs.Bytes.{u16At}
@@ -69,22 +69,40 @@ kindUpTo text (suc n) = pick (same (refused (suc n)) text) (suc n) (kindUpTo tex
 abbrev pub kindOf : List ℕ → ℕ
 kindOf text = kindUpTo text 13
 
+-- 1 for the end of a line (10)
+abbrev pub lineEnd : ℕ → ℕ
+lineEnd byte = pick (eqb byte 10) 1 0
+
+unfoldable pub linesIn : List ℕ → ℕ
+linesIn [] = 0
+linesIn (byte ∷ text) = lineEnd byte + linesIn text
+
+-- the periods of a text: its lines after the first
+abbrev pub periodsIn : List ℕ → ℕ
+periodsIn text = linesIn text - 1
+
 -- ---- the file
 
 -- what is found of a stored call
 unfoldable pub compared : List ℕ → List ℕ → List ℕ → List ℕ → Found
-compared head voice sheet want = Call (length voice) (kindOf want) (agrees head voice sheet want)
+compared head voice sheet want = Call (length voice) (kindOf want) (periodsIn want) (agrees head voice sheet want)
 
+-- of what is found: the voice's length, the text's kind and periods; 0 where it is no call
 abbrev pub voiceIn : Found → ℕ
 voiceIn End = 0
 voiceIn Damaged = 0
-voiceIn (Call v kind same) = v
+voiceIn (Call v kind periods same) = v
 
 abbrev pub kindIn : Found → ℕ
 kindIn End = 0
 kindIn Damaged = 0
-kindIn (Call v kind same) = kind
+kindIn (Call v kind periods same) = kind
 
--- a call that was read has a voice of at most 32,768 bytes and one of 14 kinds
+abbrev pub countIn : Found → ℕ
+countIn End = 0
+countIn Damaged = 0
+countIn (Call v kind periods same) = periods
+
+-- a call that was read has a voice of at most 32,768 bytes, one of 14 kinds and at most 41,000 periods
 abbrev pub Sound : Found → Type 0
-Sound found = (voiceIn found ≤ 32768) × (kindIn found < 14)
+Sound found = (voiceIn found ≤ 32768) × ((kindIn found < 14) × (countIn found ≤ 41000))

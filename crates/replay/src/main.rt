@@ -1,9 +1,8 @@
 // Makes stored calls and compares their texts with those that the Rust's answers made. data/README tells
 // what is in the file `calls`, and its format.
 ghost use mathlib.Core.Path.{_≡_};
-ghost use Prim.Native.Nat.{_+_, _<_, _≤_};
+ghost use Prim.Native.Nat.{_<_, _≤_};
 ghost use lib.ListN.{length, getD};
-ghost use Rattle.io.specs.Counts.{Counts};
 ghost use Rattle.text.specs.Names.{same};
 ghost use Rattle.lines.specs.Lines.{Puts};
 ghost use Rattle.lines.specs.Lines as lines;
@@ -18,13 +17,14 @@ use lpc::ResynthType;
 
 // ---- counting
 
-// How many calls there were, how many of them disagree, the number of the first of those, and how many
-// stored texts there were of each kind: 0 spoken, n refused n.
+// How many calls there were, how many of them disagree, the number of the first of those, how many stored
+// texts there were of each kind (0 spoken, n refused n), and how many periods these have.
 struct Tally {
     calls: usize,
     wrong: usize,
     first: usize,
     kinds: [usize; 14],
+    periods: usize,
 }
 
 impl Tally {
@@ -36,6 +36,7 @@ impl Tally {
             wrong: 0,
             first: 0,
             kinds: [0; 14],
+            periods: 0,
         }
     }
 
@@ -60,9 +61,9 @@ impl Tally {
     }
 
     // One more call.
-    fn counted(self, kind: usize, agrees: bool) -> Tally
-        requires { ⌜ tally.Sound self × ((self .calls < 65536) × (kind < 14)) ⌝ }
-        ensures { λ r. ⌜ (r ≡ tally.counted self kind agrees) × tally.Sound r ⌝ }
+    fn counted(self, kind: usize, periods: usize, agrees: bool) -> Tally
+        requires { ⌜ tally.Sound self × ((self .calls < 65536) × ((kind < 14) × (periods ≤ 65536))) ⌝ }
+        ensures { λ r. ⌜ (r ≡ tally.counted self kind periods agrees) × tally.Sound r ⌝ }
     {
         let mut kinds = self.kinds;
         kinds[kind] += 1;
@@ -71,6 +72,7 @@ impl Tally {
             wrong: self.wrong_with(agrees),
             first: self.first_with(agrees),
             kinds: kinds,
+            periods: self.periods + periods,
         }
     }
 }
@@ -204,14 +206,45 @@ fn kind_of(text: &[u8]) -> usize
     0
 }
 
+// 1 for the end of a line.
+fn line_end(byte: u8) -> usize
+    ensures { λ r. ⌜ (r ≡ stored.lineEnd byte) × (r ≤ 1) ⌝ }
+{
+    if byte == b'\n' { 1 } else { 0 }
+}
+
+// How many lines a text has.
+fn lines_in(text: &[u8]) -> usize
+    ensures { λ r. ⌜ (r ≡ stored.linesIn (now (text .entry))) × (r ≤ length (now (text .entry))) ⌝ }
+{
+    let mut n = 0;
+    let mut i = 0;
+    while i < text.len() {
+        n += line_end(text[i]);
+        i += 1;
+    }
+    n
+}
+
+// How many periods a text has: its lines after the first.
+fn periods_in(text: &[u8]) -> usize
+    ensures { λ r. ⌜ (r ≡ stored.periodsIn (now (text .entry))) × (r ≤ length (now (text .entry))) ⌝ }
+{
+    let n = lines_in(text);
+    if n == 0 {
+        return 0;
+    }
+    n - 1
+}
+
 // ---- the file
 
 // What the file has next: its end, something else than a call, or a call, with the length of its voice,
-// the kind of its text, and whether it agrees.
+// its text's kind and periods, and whether it agrees.
 enum Found {
     End,
     Damaged,
-    Call(usize, usize, bool),
+    Call(usize, usize, usize, bool),
 }
 
 // Reads n bytes to the front of a buffer, and says whether the file had them.
@@ -223,10 +256,15 @@ fn read_part(fd: i32, buf: &mut [u8], n: usize) -> bool
 
 // A stored call, made and compared.
 fn compared(head: &[u8], voice: &[u8], sheet: &[u8], want: &[u8]) -> Found
-    requires { ⌜ stored.Fits (now head) × (length (now voice) ≤ 32768) ⌝ }
+    requires { ⌜ stored.Fits (now head) × ((length (now voice) ≤ 32768) × (length (now want) ≤ 41000)) ⌝ }
     ensures { λ r. ⌜ (r ≡ stored.compared (now (head .entry)) (now (voice .entry)) (now (sheet .entry)) (now (want .entry))) × stored.Sound r ⌝ }
 {
-    Found::Call(voice.len(), kind_of(want), agrees(head, voice, sheet, want))
+    Found::Call(
+        voice.len(),
+        kind_of(want),
+        periods_in(want),
+        agrees(head, voice, sheet, want),
+    )
 }
 
 // A call whose head was read, and its voice, the first v bytes of `voice`.
@@ -299,8 +337,8 @@ fn replay(fd: i32) -> Tally
         match next(fd, &mut voice, v) {
             Found::End => return t,
             Found::Damaged => break,
-            Found::Call(n, kind, same) => {
-                t = t.counted(kind, same);
+            Found::Call(n, kind, periods, same) => {
+                t = t.counted(kind, periods, same);
                 v = n;
             }
         }
@@ -335,6 +373,8 @@ fn print_tally(t: Tally) {
     print_kinds(kinds);
     io::print_decimal(STDOUT_FILENO, t.calls as u64);
     io::write_all(STDOUT_FILENO, b" calls, ");
+    io::print_decimal(STDOUT_FILENO, t.periods as u64);
+    io::write_all(STDOUT_FILENO, b" periods, ");
     io::print_decimal(STDOUT_FILENO, t.wrong as u64);
     io::write_all(STDOUT_FILENO, b" disagree");
     if t.wrong > 0 {

@@ -1,8 +1,7 @@
 // Document 01's program: speaks the sheet call.sht with the voice voice.flv, by the simple join, the
 // fixed filter and no fold, and prints rate, periods and samples, or why it is refused.
-ghost use mathlib.Core.Path.{_≡_};
-ghost use Prim.Native.Nat.{_+_, _*_, _/_, _≤_};
-ghost use lib.ListN.{length, take};
+ghost use Prim.Native.Nat.{_≤_};
+ghost use lib.ListN.{length};
 ghost use Rattle.io.specs.Counts.{Counts};
 ghost use Rattle.lines.specs.Lines.{Puts};
 ghost use Rattle.speak.specs.Speaking as speaks;

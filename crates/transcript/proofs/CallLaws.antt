@@ -1,15 +1,14 @@
 -- What a call leaves, and its text.
 use mathlib.Core.Path.{_≡_, refl, sym, ap, subst, _∙_}
 use mathlib.Core.Bool.{Bool, true, false}
-use mathlib.Core.List.{List, [], _∷_, _++_}
+use mathlib.Core.List.{List}
 use mathlib.Core.Option.{Option, none, some}
-use Prim.Native.Nat.{ℕ, _+_, _*_, _/_, _≤_, _<_}
+use Prim.Native.Nat.{ℕ, _*_, _/_, _≤_, _<_}
 use native.Mathlib.Nat.{le-of-eq, mul-le-mul-right}
 use native.Mathlib.Omega.{arith}
 use borrow.Author.Tests.{leb-true}
 use lib.ListN.{length, take, length-map, length-take}
 use Rattle.base.specs.Choice.{pick}
-use Rattle.base.specs.Buffers.{over, flat}
 use Rattle.base.specs.Bytes.{Bytes, bytesOf}
 use Rattle.base.proofs.BufferLaws.{length-over, length-flat}
 use Rattle.base.proofs.ByteLaws.{length-bytesOf}
@@ -20,7 +19,7 @@ use Rattle.refusal.specs.Number.{numberOf}
 use Rattle.voice.specs.Header.{goodNumbers, goodHeader}
 use Rattle.voice.specs.Voice.{Voice, voiceOf, voiceAt, placesOf}
 use Rattle.voice.specs.Opening.{openingRefusal}
-use Rattle.voice.proofs.OpeningLaws.{Opens, opens, passed}
+use Rattle.voice.proofs.OpeningLaws.{opens, passed}
 use Rattle.sheet.specs.Sheet.{Sheet, sheetOf}
 use Rattle.excitation.specs.Taken.{Period, sizesOf, rowsOf, excitationOf}
 use Rattle.excitation.proofs.SizedLaws.{taken-sized, rows-length}
@@ -33,12 +32,11 @@ use Rattle.call.specs.declared.Called.the-variants.{Spoken, Refused}
 use Rattle.call.specs.declared.Planned.{Planned}
 use Rattle.call.specs.Call.{planOf, periodsTaken, periodsOf}
 use Rattle.call.specs.Buffers.{Buffers, filled, needOf, holds, fits, checkRefusal, callRefusal, summaryOf, freshOf, answerBy, plannedOf, buffersAfter}
-use Rattle.call.specs.Pull.{Lent, lentOf}
 use Rattle.planning.proofs.PlanLaws.{spoken-buffers}
 use Rattle.law.specs.SpokenCall.{SpokenCall, bytesAfter}
 use Rattle.law.proofs.LentLaws.{lentTaken, lent-filled}
-use Rattle.lines.specs.Lines.{summary, periods, refused}
-use Rattle.transcript.specs.CallText.{spokenText, textBy, callText, periodsFor, Fresh, front, Spoke, spokenBy}
+use Rattle.lines.specs.Lines.{refused}
+use Rattle.transcript.specs.CallText.{spokenText, callText, periodsFor, Fresh, front, Spoke, spokenBy}
 
 -- ---- a call that is not refused
 

@@ -1,12 +1,12 @@
 -- The pulls of a spoken call, each lent a slice that is long enough: each gives its period.
-use mathlib.Core.Path.{_≡_, refl, sym, ap, subst, _∙_}
+use mathlib.Core.Path.{_≡_, refl, sym, ap, _∙_}
 use mathlib.Core.Bool.{Bool, true, false}
-use mathlib.Core.List.{List, [], _∷_, _++_}
+use mathlib.Core.List.{List, [], _∷_}
 use Prim.Native.Nat.{ℕ, zero, suc, _+_, _*_, _/_, _≤_, _<_}
 use native.Mathlib.Omega.{arith}
 use borrow.Author.Tests.{eqb-true, eqb-false, leb-true}
 use lib.Dec.{eqb}
-use lib.ListN.{length, getD, take, drop, length-take, length-drop}
+use lib.ListN.{length, getD, take, length-take, length-drop}
 use Rattle.base.specs.Buffers.{over, flat, upto}
 use Rattle.base.specs.Bytes.{bytesOf, elements}
 use Rattle.base.proofs.BoundLaws.{Each, nil, cons, Below}
@@ -21,10 +21,9 @@ use Rattle.lpc.specs.Filter.{cut}
 use Rattle.lpc.specs.State.{freshState, advanced, spoken, periodsBy}
 use Rattle.lpc.proofs.FilterLaws.{length-cut, length-by, by-low}
 use Rattle.lpc.proofs.StateLaws.{kept}
-use Rattle.call.specs.declared.Answer.{Answer}
 use Rattle.call.specs.declared.Answer.the-variants.{Given, Done, Refused}
 use Rattle.call.specs.declared.Pulled.{Pulled}
-use Rattle.call.specs.Pull.{Lent, lentOf, allGiven, possible, nextPart, leaves, pullOf}
+use Rattle.call.specs.Pull.{Lent, lentOf, possible, nextPart, leaves, pullOf}
 use Rattle.call.specs.Machine.{Shown, pulls, shows, machine}
 use Rattle.call.proofs.PullLaws.{pull-impossible, pull-done, pull-gives, shows-short, shows-gives, machine-gives, fresh-machine}
 use Rattle.call.proofs.MachineLaws.{shows-done-all, shows-refused}

@@ -1,8 +1,8 @@
 // The text of a call, as document 01's program prints it: rate, periods and samples, then each period,
 // or why the call is refused.
 ghost use mathlib.Core.Path.{_≡_};
-ghost use Prim.Native.Nat.{_+_, _*_, _/_, _≤_};
-ghost use lib.ListN.{length, take};
+ghost use Prim.Native.Nat.{_+_, _≤_};
+ghost use lib.ListN.{length};
 ghost use Rattle.lines.specs.Lines.{Puts};
 ghost use Rattle.lines.specs.Lines as lines;
 ghost use Rattle.call.specs.Buffers.{lent};

@@ -51,7 +51,9 @@ compared-requires : tie.Need-compared-requires
 compared-requires c κs =
     let x = c .before .before .before .before .before .before .before .before .before .before .before .before .before .before .before .before in
     let e = taken-length (x .args .v) (x .args .voice .now) (omega (arith, x .pre .1 .0, x .pre .1 .1)) in
-    (x .pre .0, omega (arith, e, x .pre .1 .0))
+    let l = c .before .before .before .before .before .before .before .before .before .before .before .length-at2 in
+    let w = taken-length (l .result) (c .before .before .before .before .before .read-part2 .last .1 .0) (search needs) in
+    (x .pre .0, (omega (arith, e, x .pre .1 .0), omega (arith, w, l .ensures .1)))
 
 returns-3 : tie.Need-returns-3
 returns-3 c = search needs

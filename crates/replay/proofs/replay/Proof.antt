@@ -42,14 +42,15 @@ enum-known-n c = search needs
 counted-requires : tie.Need-counted-requires Inv-loop μ-loop
 counted-requires c κs =
     let i = c .before .before .before .before .before .before .before .before .loop .inv .1 .1 in
-    (i .0, (omega (arith, i .1), found-sound (c .before .n .given .1) (c .before .before .before .before .next .ensures) .1))
+    let f = found-sound (c .before .n .given .1) (c .before .before .before .before .next .ensures) .1 in
+    (i .0, (omega (arith, i .1), (f .0, omega (arith, f .1))))
 
 loop-less : tie.Need-loop-less Inv-loop μ-loop
-loop-less c = omega (arith, counted-calls _ _ _ (c .counted .ensures .0), c .before .before .before .before .before .before .before .if1 .taken)
+loop-less c = omega (arith, counted-calls _ _ _ _ (c .counted .ensures .0), c .before .before .before .before .before .before .before .if1 .taken)
 
 loop-again : tie.Need-loop-again Inv-loop μ-loop
 loop-again c =
-    let e = counted-calls _ _ _ (c .counted .ensures .0) in
+    let e = counted-calls _ _ _ _ (c .counted .ensures .0) in
     (found-sound (c .before .before .n .given .1) (c .before .before .before .before .before .next .ensures) .0, (search needs, (c .counted .ensures .1, omega (arith, e, c .before .before .before .before .before .before .before .if1 .taken))))
 
 add-print-damaged : tie.Need-add-print-damaged Inv-loop μ-loop

@@ -17,8 +17,8 @@ add-kinds c = let x = c .before in let l = x .pre .0 .kinds (x .args .kind) in s
 array-write-kinds : tie.Need-array-write-kinds
 array-write-kinds c = search needs
 
-add-t5 : tie.Need-add-t5
-add-t5 c = search needs
+add-t6 : tie.Need-add-t6
+add-t6 c = search needs
 
 wrong-with-requires : tie.Need-wrong-with-requires
 wrong-with-requires c κs = search needs
@@ -26,11 +26,15 @@ wrong-with-requires c κs = search needs
 first-with-requires : tie.Need-first-with-requires
 first-with-requires c κs = search needs
 
+add-t12 : tie.Need-add-t12
+add-t12 c = search needs
+
 returns : tie.Need-returns
 returns c =
-    let x = c .before .before .before .before in
-    let e = counted-by (x .args .self) (x .args .kind) (x .args .agrees) (c .before .wrong-with .ensures) (c .first-with .ensures) in
-    (e, subst Sound (sym e) (counted-sound (x .args .self) (x .args .kind) (x .args .agrees) (x .pre .0) (x .pre .1 .1)))
+    let x = c .before .before .before .before .before in
+    let a = x .args in
+    let e = counted-by (a .self) (a .kind) (a .periods) (a .agrees) (c .before .before .wrong-with .ensures) (c .before .first-with .ensures) in
+    (e, subst Sound (sym e) (counted-sound (a .self) (a .kind) (a .periods) (a .agrees) (x .pre .0) (x .pre .1 .1 .0) (x .pre .1 .1 .1)))
 
 pub counted-spec : {M : Type 1} → statement M
 counted-spec =
@@ -40,7 +44,8 @@ counted-spec =
     array-read-kinds
     add-kinds
     array-write-kinds
-    add-t5
+    add-t6
     wrong-with-requires
     first-with-requires
+    add-t12
     returns)
