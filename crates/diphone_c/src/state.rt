@@ -1,8 +1,8 @@
 // A filter state in bytes.
 ghost use mathlib.Core.Path.{_≡_};
-ghost use Prim.Native.Nat.{_≤_, _<_};
-ghost use lib.ListN.{length};
-ghost use lib.Ieee.{binary32, ofBits};
+ghost use Prim.Native.Nat.{_≤_};
+ghost use lib.ListN.{length, getD};
+ghost use lib.Ieee.{nan, binary32, ofBits, toBits};
 ghost use Rattle.base.specs.Buffers.{over, upto};
 ghost use Rattle.diphone_c.specs.State as states;
 use lpc::FilterState;
@@ -78,20 +78,32 @@ fn filter_number(filter: ResynthType) -> u32
     }
 }
 
-// Place i of the history of the state's filter, as a word.
-fn word(state: FilterState, i: usize) -> u32
-    requires { ⌜ i < 33 ⌝ }
-    ensures { λ r. ⌜ r ≡ states.wordOf state i ⌝ }
+// The bits of a history's floats.
+fn float_words(history: &[f32; 33]) -> [u32; 33]
+    ensures { λ r. ⌜ r ≡ upto (λ i. toBits binary32 (getD (now (history .entry)) i nan)) 33 ⌝ }
+{
+    let mut words = [0u32; 33];
+    let mut i = 0usize;
+    while i < 33 {
+        words[i] = float::f32_to_word(history[i]);
+        i += 1;
+    }
+    words
+}
+
+// The history of the state's filter, as words.
+fn words_of(state: FilterState) -> [u32; 33]
+    ensures { λ r. ⌜ r ≡ upto (states.wordOf state) 33 ⌝ }
 {
     let filter = state.filter;
     match filter {
         ResynthType::Fixed => {
             let history = state.fixed;
-            history[i]
+            history
         }
         ResynthType::Float => {
             let history = state.float;
-            float::f32_to_word(history[i])
+            float_words(&history)
         }
     }
 }
@@ -116,9 +128,10 @@ fn store_history(state: FilterState, buf: &mut [u8])
     requires { ⌜ 132 ≤ length (now buf) ⌝ }
     ensures { λ _. ⌜ now (buf .exit) ≡ over (states.historyBytes state) (now (buf .entry)) ⌝ }
 {
+    let words = words_of(state);
     let mut i = 0usize;
     while i < 33 {
-        base::bytes::put_u32(buf, i, word(state, i));
+        base::bytes::put_u32(buf, i, words[i]);
         i += 1;
     }
 }

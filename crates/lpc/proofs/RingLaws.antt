@@ -47,11 +47,11 @@ tap-after order at h zero = ap (placeBefore order) (before-after order at h)
 tap-after order at h (suc k) = ap (placeBefore order) (tap-after order at h k)
 
 -- where the tap k stands
-data Stands (order at k t : ℕ) : Type 0 where
+pub data Stands (order at k t : ℕ) : Type 0 where
   lower : t + k + 1 ≡ at → Stands order at k t
   upper : at ≤ k → t + k ≡ order + at → Stands order at k t
 
-stands : (order at k : ℕ) → at ≤ order → k ≤ order → Stands order at k (tap order at k)
+pub stands : (order at k : ℕ) → at ≤ order → k ≤ order → Stands order at k (tap order at k)
 unfolding tap
 stands order at zero h l = ⊎-elim (λ e. rw e (upper (omega arith) (omega arith))) (λ p. rw (before-pos order at p) (lower (omega arith))) (zero-or at)
 stands order at (suc k) h l = next (tap order at k) (stands order at k h (omega arith))

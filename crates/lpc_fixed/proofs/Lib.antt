@@ -1,3 +1,5 @@
 -- Laws about the fixed filter's words.
+pub mod SumLaws
 pub mod ValueLaws
+pub mod WindowLaws
 pub mod NextLaws

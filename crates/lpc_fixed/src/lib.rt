@@ -2,7 +2,7 @@
 use lpc::FilterState;
 use lpc::ResynthType;
 ghost use mathlib.Core.Path.{_≡_};
-ghost use Prim.Native.Nat.{_/_, _≤_};
+ghost use Prim.Native.Nat.{_+_, _-_, _/_, _≤_};
 ghost use lib.IntN.{pos, _*ℤ_};
 ghost use lib.ListN.{length, getD, replicate};
 ghost use Rattle.base.specs.Buffers.{over, flat, upto};
@@ -11,10 +11,10 @@ ghost use Rattle.base.specs.Words.{low};
 ghost use Rattle.ulaw.specs.Ulaw.{sampleOf};
 ghost use Rattle.lpc.specs.Fixed.{scaledBy, rowValue, divided};
 ghost use Rattle.lpc.specs.Ready.{Ready, partOf};
-ghost use Rattle.lpc.specs.Ring.{tap};
 ghost use Rattle.lpc.specs.State.{advanced, spoken};
 ghost use Rattle.lpc.specs.Sums.{summed, fixedStep};
 ghost use Rattle.lpc_fixed.specs.Values.{valueAt};
+ghost use Rattle.lpc_fixed.specs.Window.{Doubled};
 
 // The word of an i64.
 fn i64_to_word(x: i64) -> u64
@@ -32,21 +32,34 @@ fn row_value(min_q: i32, range_q: i32, q: u16) -> u32
     base::words::low32(i64_to_word(value))
 }
 
-// The accumulator `start` with the `order` products added: value k times the output k + 1 back.
-fn sum(start: u32, values: &[u32; 32], history: &[u32; 33], order: usize, place: usize) -> u32
-    requires { ⌜ (order ≤ 32) × (place ≤ order) ⌝ }
-    ensures { λ r. ⌜ r ≡ summed fixedStep start (upto (λ k. getD (now (values .entry)) k 0) order) (λ k. getD (now (history .entry)) (tap order place k) 0) 0 ⌝ }
+// The accumulator `start` with the `order` products added: value k times the output k + 1 back, which
+// the window has at place + order - k. Sums wrap, so their order is free: the newest output comes
+// last, as `last`, at hand before it can be read back.
+fn sum(
+    start: u32,
+    last: u32,
+    values: &[u32; 32],
+    window: &[u32; 66],
+    order: usize,
+    place: usize,
+) -> u32
+    requires { ⌜ (order ≤ 32) × (place ≤ order) × (last ≡ getD (now window) (place + order) 0) ⌝ }
+    ensures { λ r. ⌜ r ≡ summed fixedStep start (upto (λ k. getD (now (values .entry)) k 0) order) (λ k. getD (now (window .entry)) (place + order - k) 0) 0 ⌝ }
 {
-    let mut acc = start;
-    let mut at = lpc::place_before(order, place);
-    let mut k = 0usize;
-    while k < order {
-        let product = base::words::wrapping_mul(values[k], history[at]);
-        acc = std::num::wrapping_add_u32(acc, product);
-        at = lpc::place_before(order, at);
-        k += 1;
+    if order == 0 {
+        return start;
     }
-    acc
+    let mut acc = start;
+    let mut at = place + 1;
+    let mut k = order - 1;
+    while 0 < k {
+        let product = base::words::wrapping_mul(values[k], window[at]);
+        acc = std::num::wrapping_add_u32(acc, product);
+        at += 1;
+        k -= 1;
+    }
+    let product = base::words::wrapping_mul(values[0], last);
+    std::num::wrapping_add_u32(acc, product)
 }
 
 // coeff_min, scaled.
@@ -82,13 +95,35 @@ fn row_values(min_q: i32, range_q: i32, row: &[u8]) -> [u32; 32]
 const LPC_SCALE: u32 = 16384;
 
 // The output for a byte of the excitation.
-fn next(values: &[u32; 32], history: &[u32; 33], order: usize, place: usize, byte: u8) -> u32
-    requires { ⌜ (order ≤ 32) × (place ≤ order) ⌝ }
-    ensures { λ r. ⌜ r ≡ divided (summed fixedStep (low 32 (sampleOf byte *ℤ pos 16384)) (upto (λ k. getD (now (values .entry)) k 0) order) (λ k. getD (now (history .entry)) (tap order place k) 0) 0) ⌝ }
+fn next(
+    byte: u8,
+    last: u32,
+    values: &[u32; 32],
+    window: &[u32; 66],
+    order: usize,
+    place: usize,
+) -> u32
+    requires { ⌜ (order ≤ 32) × (place ≤ order) × (last ≡ getD (now window) (place + order) 0) ⌝ }
+    ensures { λ r. ⌜ r ≡ divided (summed fixedStep (low 32 (sampleOf byte *ℤ pos 16384)) (upto (λ k. getD (now (values .entry)) k 0) order) (λ k. getD (now (window .entry)) (place + order - k) 0) 0) ⌝ }
 {
     let sample = base::words::i32_to_word(ulaw::ulaw_to_i16(byte) as i32);
     let start = base::words::wrapping_mul(sample, LPC_SCALE);
-    base::words::divide_by_16384(sum(start, values, history, order, place))
+    base::words::divide_by_16384(sum(start, last, values, window, order, place))
+}
+
+// The ring twice, so that no walk over `order` places of it wraps.
+fn doubled(history: &[u32; 33], order: usize) -> [u32; 66]
+    requires { ⌜ order ≤ 32 ⌝ }
+    ensures { λ r. ⌜ Doubled order (order + 1) (now (history .entry)) r × (length r ≡ 66) ⌝ }
+{
+    let mut window = [0u32; 66];
+    let mut i = 0usize;
+    while i <= order {
+        window[i] = history[i];
+        window[i + order + 1] = history[i];
+        i += 1;
+    }
+    window
 }
 
 // The next period by the fixed filter: its samples go to the front of `samples`.
@@ -105,12 +140,17 @@ pub fn resynthesise_period(
     let order = state.order;
     let values = row_values(min_q(state.coeff_min), range_q(state.coeff_range), row);
     let mut history = state.fixed;
+    let mut window = doubled(&history, order);
     let mut place = state.ring_place;
+    let mut last = window[place + order];
     let mut i = 0usize;
     while i < excitation.len() {
-        let y = next(&values, &history, order, place, excitation[i]);
+        let y = next(excitation[i], last, &values, &window, order, place);
         base::bytes::put_u16(samples, i, base::words::low16(y));
         history[place] = y;
+        window[place] = y;
+        window[place + order + 1] = y;
+        last = y;
         place = lpc::place_after(order, place);
         i += 1;
     }

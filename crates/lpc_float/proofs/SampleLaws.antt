@@ -1,4 +1,4 @@
--- A float from 1 up to 2 ^ 15 in magnitude, as a 16-bit sample, by its pattern: the digits, with the leading one put back, are shifted to a whole number, which has the pattern's sign.
+-- A float from 2 ^ -40 up to 2 ^ 15 in magnitude, as a 16-bit sample, by its pattern: the digits, with the leading one put back, are shifted to a whole number, which has the pattern's sign.
 use mathlib.Core.Path.{_≡_, refl, sym, ap, subst, _∙_}
 use mathlib.Core.Bool.{Bool, true, false, cond}
 use Prim.Native.Nat.{ℕ, zero, suc, _+_, _-_, _*_, _/_, _%_, _^_, _≤_, _<_, min}
@@ -68,13 +68,13 @@ sign-word b n B h = go (leb (2 ^ 31) b) refl
         let none : b / 2 ^ 31 ≡ 0 = omega arith in
         rw none (kept n)
 
--- ---- a pattern whose exponent is from 127 to 141
+-- ---- a pattern whose exponent is from 87 to 141
 
 ofBits-is : (b : ℕ) → ofBits binary32 b ≡ ofFields binary32 (leb (2 ^ 31) b) (b % 2 ^ 31 / 2 ^ 23) (b % 2 ^ 23)
 unfolding ofBits
 ofBits-is b = refl
 
-module _ (y : Float) (F : T (fits binary32 y)) (b : ℕ) (is : b ≡ toBits binary32 y) (B : b < 2 ^ 32) (lo : 127 ≤ b % 2 ^ 31 / 2 ^ 23) (hi : b % 2 ^ 31 / 2 ^ 23 < 142) where
+module _ (y : Float) (F : T (fits binary32 y)) (b : ℕ) (is : b ≡ toBits binary32 y) (B : b < 2 ^ 32) (lo : 87 ≤ b % 2 ^ 31 / 2 ^ 23) (hi : b % 2 ^ 31 / 2 ^ 23 < 142) where
   abbrev x : ℕ
   x = b % 2 ^ 31 / 2 ^ 23
 

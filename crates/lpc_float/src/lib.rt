@@ -90,16 +90,17 @@ fn next(
     )
 }
 
-// The sample of an output, as a word. From 1 up to 2^15 in magnitude it is the pattern's digits,
-// shifted, and the sign costs no branch.
+// The sample of an output, as a word. From 2^-40 up to 2^15 in magnitude it is the pattern's digits,
+// shifted, and neither the sign nor a sample of 0 costs a branch.
 fn sample(y: f32) -> u16
     ensures { λ r. ⌜ r ≡ low 16 (toSigned 15 y) ⌝ }
 {
     let pattern = float::f32_to_word(y);
     let exponent = pattern % 2147483648 / 8388608;
-    if 127 <= exponent {
+    if 87 <= exponent {
         if exponent < 142 {
-            let whole = (8388608 + pattern % 8388608) >> (150 - exponent);
+            let digits = (8388608 + pattern % 8388608) as u64;
+            let whole = (digits >> (150 - exponent)) as u32;
             let negative = pattern / 2147483648;
             return base::words::low16(whole + negative * (65536 - 2 * whole));
         }

@@ -1,22 +1,27 @@
-use mathlib.Core.Path.{_∙_}
-use Prim.Native.Nat.{_-_}
+use mathlib.Core.Path.{refl, _∙_}
+use native.Mathlib.Omega.{arith}
+use Rattle.lpc_fixed.proofs.SumLaws.{Summed, sum-none, sum-start, sum-more, sum-turn, sum-end}
 use borrow.Author.Needs.{needs}
-use Rattle.lpc.specs.Sums.{fixedStep}
-use Rattle.lpc.proofs.SumLaws.{Summing, sum-start, sum-turn, sum-end}
 use Rattle.lpc_fixed.proofs.sum.Statement.{statement}
 use Rattle.lpc_fixed.proofs.sum.Tie as tie
 
 abbrev Inv-loop : tie.InvT-loop
-Inv-loop start values history order place acc₀ at₀ k₀ acc at k = Summing fixedStep 0 start values history order place acc at k
+Inv-loop start last values window order place acc₀ at₀ k₀ acc at k = Summed start values window order place acc at k
 
 abbrev μ-loop : tie.MeasureT-loop
-μ-loop start values history order place acc₀ at₀ k₀ acc at k = order - k
+μ-loop start last values window order place acc₀ at₀ k₀ acc at k = k
 
-place-before-requires : tie.Need-place-before-requires Inv-loop μ-loop
-place-before-requires c κs = search needs
+returns : tie.Need-returns Inv-loop μ-loop
+returns c = let a = c .before .args in sum-none (a .start) (a .values .now) (a .window .now) (a .order) (a .place) (c .if1 .taken)
+
+add-at : tie.Need-add-at Inv-loop μ-loop
+add-at c = search needs
+
+sub-k : tie.Need-sub-k Inv-loop μ-loop
+sub-k c = search needs
 
 loop-holds : tie.Need-loop-holds Inv-loop μ-loop
-loop-holds c = sum-start _ _ _ _ _ _ _ _ (c .place-before .ensures .0) (c .place-before .ensures .1)
+loop-holds c = sum-start _ _ _ _ _ (omega arith)
 
 mul-wrapping-mul : tie.Need-mul-wrapping-mul Inv-loop μ-loop
 mul-wrapping-mul c = search needs
@@ -36,26 +41,37 @@ wrapping-mul-requires c κs = search needs
 wrapping-add-u32-requires : tie.Need-wrapping-add-u32-requires Inv-loop μ-loop
 wrapping-add-u32-requires c κs = search needs
 
-place-before-requires-2 : tie.Need-place-before-requires-2 Inv-loop μ-loop
-place-before-requires-2 c κs = search needs
+add-at-2 : tie.Need-add-at-2 Inv-loop μ-loop
+add-at-2 c = search needs
 
-add-k : tie.Need-add-k Inv-loop μ-loop
-add-k c = search needs
+sub-k-2 : tie.Need-sub-k-2 Inv-loop μ-loop
+sub-k-2 c = search needs
 
 loop-less : tie.Need-loop-less Inv-loop μ-loop
 loop-less c = search needs
 
 loop-again : tie.Need-loop-again Inv-loop μ-loop
 loop-again c =
-    let u = c .before .before .before .before .before in
+    let u = c .before .before .before .before in
     let l = u .before .loop in
-    sum-turn _ _ _ _ _ _ _ (l .acc) (l .at) (l .k) (l .inv) (u .loop-test .taken) _ _
-    (c .before .wrapping-add-u32 .ensures ∙ rw (c .before .before .wrapping-mul .ensures))
-    (c .place-before2 .ensures .0)
-    (c .place-before2 .ensures .1)
+    sum-turn _ _ _ _ _ (l .acc) (l .at) (l .k) (l .inv) _ (u .loop-test .taken)
+    (sum-more _ _ _ _ _ (l .acc) (l .at) (l .k) (l .inv) _ _ (c .wrapping-add-u32 .ensures ∙ rw (c .before .wrapping-mul .ensures)) refl)
 
-returns : tie.Need-returns Inv-loop μ-loop
-returns c = sum-end _ _ _ _ _ _ _ (c .before .loop .acc) (c .before .loop .at) (c .before .loop .k) (c .before .loop .inv) (c .loop-test .left)
+element-copy-out-wrapping-mul-3 : tie.Need-element-copy-out-wrapping-mul-3 Inv-loop μ-loop
+element-copy-out-wrapping-mul-3 c = search needs
+
+wrapping-mul-requires-2 : tie.Need-wrapping-mul-requires-2 Inv-loop μ-loop
+wrapping-mul-requires-2 c κs = search needs
+
+wrapping-add-u32-requires-2 : tie.Need-wrapping-add-u32-requires-2 Inv-loop μ-loop
+wrapping-add-u32-requires-2 c κs = search needs
+
+returns-2 : tie.Need-returns-2 Inv-loop μ-loop
+returns-2 c =
+    let x = c .before .before .before in
+    let l = x .before .loop in
+    let a = x .before .before .before in
+    sum-end _ _ _ _ _ (l .acc) (l .at) (l .k) (l .inv) _ (a .args .last) (x .loop-test .left) (c .wrapping-add-u322 .ensures ∙ rw (c .before .wrapping-mul2 .ensures)) (a .pre .2)
 
 pub sum-spec : {M : Type 1} → statement M
 sum-spec =
@@ -63,7 +79,9 @@ sum-spec =
     (tie.spec
     Inv-loop
     μ-loop
-    place-before-requires
+    returns
+    add-at
+    sub-k
     loop-holds
     mul-wrapping-mul
     element-copy-out-wrapping-mul
@@ -71,8 +89,11 @@ sum-spec =
     element-copy-out-wrapping-mul-2
     wrapping-mul-requires
     wrapping-add-u32-requires
-    place-before-requires-2
-    add-k
+    add-at-2
+    sub-k-2
     loop-less
     loop-again
-    returns)
+    element-copy-out-wrapping-mul-3
+    wrapping-mul-requires-2
+    wrapping-add-u32-requires-2
+    returns-2)

@@ -12,11 +12,17 @@ use Rattle.lpc_float.proofs.sample.Tie as tie
 f32-to-word-requires : tie.Need-f32-to-word-requires
 f32-to-word-requires c κs = search needs
 
-add-whole : tie.Need-add-whole
-add-whole c = search needs
+add-digits : tie.Need-add-digits
+add-digits c = search needs
+
+cast-digits : tie.Need-cast-digits
+cast-digits c = search needs
 
 sub-whole : tie.Need-sub-whole
 sub-whole c = search needs
+
+cast-whole : tie.Need-cast-whole
+cast-whole c = search needs
 
 shr-whole : tie.Need-shr-whole
 shr-whole c = search needs
@@ -37,6 +43,9 @@ low-whole c =
 
 low-sign : (c : tie.Then2) → pattern c / 2 ^ 31 * (65536 - 2 * whole c) ≤ 65536 - 2 * whole c
 low-sign c = sign-low (pattern c) (65536 - 2 * whole c) (pattern-low c)
+
+cast-whole-2 : tie.Need-cast-whole-2
+cast-whole-2 c = record { fits = omega (arith, low-whole c) }
 
 mul-low16 : tie.Need-mul-low16
 mul-low16 c = omega (arith, low-whole c)
@@ -73,9 +82,12 @@ sample-spec =
     tie.close
     (tie.spec
     f32-to-word-requires
-    add-whole
+    add-digits
+    cast-digits
     sub-whole
+    cast-whole
     shr-whole
+    cast-whole-2
     mul-low16
     sub-low16
     mul-low16-2

@@ -1,27 +1,37 @@
 use mathlib.Core.Path.{_≡_, refl, _∙_}
-use Prim.Native.Nat.{_+_, _*_, _-_, _≤_}
+use mathlib.Core.List.{List}
+use Prim.Native.Nat.{ℕ, _+_, _*_, _-_, _≤_}
 use native.Mathlib.Omega.{arith}
-use lib.ListN.{length}
+use lib.ListN.{length, getD}
 use Rattle.base.specs.Buffers.{over, flat, upto}
 use Rattle.base.specs.Bytes.{bytesOf}
-use Rattle.base.proofs.BufferLaws.{filled-none, filled-more}
+use Rattle.base.proofs.BufferLaws.{upto-same, getD-upto, filled-none, filled-more}
 use Rattle.base.proofs.ByteLaws.{length-bytesOf}
 use Rattle.diphone_c.specs.State.{wordOf}
 use borrow.Author.Needs.{needs}
 use Rattle.diphone_c.proofs.state.store_history.Statement.{statement}
 use Rattle.diphone_c.proofs.state.store_history.Tie as tie
 
+abbrev wordIn : List ℕ → ℕ → ℕ
+wordIn words i = getD words i 0
+
 abbrev Inv-loop : tie.InvT-loop
-Inv-loop state buf₀ i₀ buf i = (i ≤ 33) × (length buf ≡ length buf₀) × (buf ≡ over (flat (bytesOf 4) (upto (wordOf state) i)) buf₀)
+Inv-loop buf₀ words i₀ buf i = (i ≤ 33) × (length buf ≡ length buf₀) × (buf ≡ over (flat (bytesOf 4) (upto (wordIn words) i)) buf₀)
 
 abbrev μ-loop : tie.MeasureT-loop
-μ-loop state buf₀ i₀ buf i = 33 - i
+μ-loop buf₀ words i₀ buf i = 33 - i
+
+words-of-requires : tie.Need-words-of-requires Inv-loop μ-loop
+words-of-requires c κs = search needs
 
 loop-holds : tie.Need-loop-holds Inv-loop μ-loop
-loop-holds c = (omega arith, refl, filled-none 4 (bytesOf 4) (length-bytesOf 4) (wordOf (c .before .args .state)) 0 (c .before .args .buf .now))
+loop-holds c = (omega arith, refl, filled-none 4 (bytesOf 4) (length-bytesOf 4) (wordIn (c .words-of .result)) 0 (c .before .before .args .buf .now))
 
-word-requires : tie.Need-word-requires Inv-loop μ-loop
-word-requires c κs = search needs
+mul-put-u32 : tie.Need-mul-put-u32 Inv-loop μ-loop
+mul-put-u32 c = search needs
+
+array-read-put-u32 : tie.Need-array-read-put-u32 Inv-loop μ-loop
+array-read-put-u32 c = search needs
 
 put-u32-requires : tie.Need-put-u32-requires Inv-loop μ-loop
 put-u32-requires c κs = search needs
@@ -34,13 +44,14 @@ loop-less c = search needs
 
 loop-again : tie.Need-loop-again Inv-loop μ-loop
 loop-again c =
-    let w = c .before .before .before in
+    let w = c .before .before in
     let l = w .before .before .before .loop in
-    let a = w .before .before .before .before .before .args in
+    let a = w .before .before .before .before .before .before .args in
+    let f = wordIn (w .before .before .before .before .words-of .result) in
     let room : 4 * l .i + 4 ≤ length (a .buf .now) = omega arith in (
       omega arith,
       omega arith,
-      c .before .before .put-u32 .ensures ∙ rw (l .inv .2, w .word .ensures) (filled-more 4 (bytesOf 4) (length-bytesOf 4) (wordOf (a .state)) (l .i) (a .buf .now) room),
+      w .put-u32 .ensures ∙ rw (l .inv .2) (filled-more 4 (bytesOf 4) (length-bytesOf 4) f (l .i) (a .buf .now) room),
     )
 
 same-length : tie.Need-same-length Inv-loop μ-loop
@@ -49,8 +60,11 @@ same-length c = search needs
 returns : tie.Need-returns Inv-loop μ-loop
 returns c =
     let l = c .before .loop in
+    let w = c .before .before .words-of in
+    let f = wordOf (c .before .before .before .before .args .state) in
     let e : l .i ≡ 33 = omega arith in
-    rw e at (l .inv .2)
+    let same : upto (wordIn (w .result)) 33 ≡ upto f 33 = upto-same _ f 33 (λ i h. rw (w .ensures) (getD-upto f 33 i 0 h)) in
+    rw (e, same) at (l .inv .2)
 
 pub store-history-spec : {M : Type 1} → statement M
 store-history-spec =
@@ -58,8 +72,10 @@ store-history-spec =
     (tie.spec
     Inv-loop
     μ-loop
+    words-of-requires
     loop-holds
-    word-requires
+    mul-put-u32
+    array-read-put-u32
     put-u32-requires
     add-i
     loop-less
