@@ -1,4 +1,6 @@
 // A call: from voice and sheet to pitch periods of samples.
+ghost use mathlib.Core.Path.{_≡_};
+ghost use Rattle.call.specs.Numbers as numbers;
 use lpc::FilterState;
 use lpc::ResynthType;
 use refusal::Refusal;
@@ -14,6 +16,40 @@ pub struct Settings {
     pub join: JoinType,
     pub filter: ResynthType,
     pub fold: bool,
+}
+
+// The join of a number: 0 none, 1 simple, any other modified.
+fn join_of(n: u32) -> JoinType
+    ensures { λ r. ⌜ r ≡ numbers.joinOf n ⌝ }
+{
+    if n == 0 {
+        return JoinType::None;
+    }
+    if n == 1 {
+        return JoinType::Simple;
+    }
+    JoinType::ModifiedLpc
+}
+
+// The filter of a number: 0 fixed, any other float.
+fn filter_of(n: u32) -> ResynthType
+    ensures { λ r. ⌜ r ≡ numbers.filterOf n ⌝ }
+{
+    if n == 0 {
+        return ResynthType::Fixed;
+    }
+    ResynthType::Float
+}
+
+// The settings of three numbers; fold is off for 0.
+pub fn settings_of(join: u32, filter: u32, fold: u32) -> Settings
+    ensures { λ r. ⌜ r ≡ numbers.settingsOf join filter fold ⌝ }
+{
+    Settings {
+        join: join_of(join),
+        filter: filter_of(filter),
+        fold: fold != 0,
+    }
 }
 
 // How many elements each buffer of a call must have.

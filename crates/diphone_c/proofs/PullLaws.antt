@@ -16,8 +16,9 @@ use Rattle.base.specs.Buffers.{over, flat}
 use Rattle.base.specs.Bytes.{littleEndian, bytesOf}
 use Rattle.base.proofs.ListLaws.{every-nil, every-cons, every-pass, every-fail}
 use Rattle.refusal.specs.declared.Refusal.{Refusal}
-use Rattle.refusal.specs.declared.Refusal.the-variants.{BadMagic, SectionCut, NotDiphone, MissingSection, BadHeader, BadTables, BadIndex, BadSheet, NotFinite, BadSlope, PastLimit, TooManyMarks, ShortBuffer, ShortSlice, BadState}
+use Rattle.refusal.specs.declared.Refusal.the-variants.{ShortSlice, BadState}
 use Rattle.refusal.specs.Number.{numberOf}
+use Rattle.refusal.proofs.NumberLaws.{number-low}
 use Rattle.lpc.specs.declared.FilterState.{FilterState}
 use Rattle.lpc.specs.State.{advanced, spoken}
 use Rattle.call.specs.declared.Answer.{Answer}
@@ -28,23 +29,6 @@ use Rattle.diphone_c.specs.State.{stateOf}
 use Rattle.diphone_c.specs.Pull.{isState, outcomeOf, refusedNumber, numberFor, keptBy, stateLeft, sliceLeft}
 
 -- ---- minus a number
-
-number-low : (r : Refusal) → numberOf r ≤ 15
-number-low BadMagic = omega arith
-number-low SectionCut = omega arith
-number-low NotDiphone = omega arith
-number-low MissingSection = omega arith
-number-low BadHeader = omega arith
-number-low BadTables = omega arith
-number-low BadIndex = omega arith
-number-low BadSheet = omega arith
-number-low NotFinite = omega arith
-number-low BadSlope = omega arith
-number-low PastLimit = omega arith
-number-low TooManyMarks = omega arith
-number-low ShortBuffer = omega arith
-number-low ShortSlice = omega arith
-number-low BadState = omega arith
 
 minus-fits : (n : ℕ) → n ≤ 15 → SFits w64 (negℤ (pos n))
 minus-fits zero h = record { sfits = omega arith }

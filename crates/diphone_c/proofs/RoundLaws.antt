@@ -20,7 +20,8 @@ use Rattle.float.proofs.Tests.{yes, no}
 use Rattle.lpc.specs.declared.ResynthType.{ResynthType}
 use Rattle.lpc.specs.declared.ResynthType.the-variants.{Fixed, Float as FloatType}
 use Rattle.lpc.specs.declared.FilterState.{FilterState}
-use Rattle.diphone_c.specs.State.{filterNumber, filterOf, historyAt, fixedIn, floatIn, stateWith, stateOf, wordBy, wordOf, headBytes, historyBytes, bytesOfState}
+use Rattle.call.specs.Numbers.{filterOf}
+use Rattle.diphone_c.specs.State.{filterNumber, historyAt, fixedIn, floatIn, stateWith, stateOf, wordBy, wordOf, headBytes, historyBytes, bytesOfState}
 
 -- ---- what is read from stored bytes
 

@@ -4,16 +4,15 @@
 use mathlib.Core.Bool.{false}
 use mathlib.Core.List.{List, _++_}
 use Prim.Native.Nat.{ℕ, _+_, _*_}
-use lib.Dec.{eqb}
 use lib.IntN.{pos}
 use lib.ListN.{getD, replicate}
 use lib.Ieee.{Float, nan, fin, binary32, ofBits, toBits}
-use Rattle.base.specs.Choice.{pick}
 use Rattle.base.specs.Buffers.{flat, upto}
 use Rattle.base.specs.Bytes.{littleEndian, bytesOf}
 use Rattle.lpc.specs.declared.ResynthType.{ResynthType}
 use Rattle.lpc.specs.declared.ResynthType.the-variants.{Fixed, Float as FloatType}
 use Rattle.lpc.specs.declared.FilterState.{FilterState}
+use Rattle.call.specs.Numbers.{filterOf}
 
 -- DIPHONE_STATE_BYTES
 abbrev pub stateLength : ℕ
@@ -22,9 +21,6 @@ stateLength = 168
 abbrev pub filterNumber : ResynthType → ℕ
 filterNumber Fixed = 0
 filterNumber FloatType = 1
-
-abbrev pub filterOf : ℕ → ResynthType
-filterOf n = pick (eqb n (filterNumber Fixed)) Fixed FloatType
 
 -- what the history's place i holds, in bytes
 abbrev pub historyAt : List ℕ → ℕ → ℕ

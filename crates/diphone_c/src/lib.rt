@@ -11,7 +11,7 @@ ghost use Rattle.base.specs.Buffers.{over};
 ghost use Rattle.voice.specs.Opening.{IsOpen};
 ghost use Rattle.call.specs.Pull.{lentOf};
 ghost use Rattle.diphone_c.specs.Open as opens;
-ghost use Rattle.diphone_c.specs.Numbers as numbers;
+ghost use Rattle.call.specs.Numbers as numbers;
 ghost use Rattle.diphone_c.specs.Plan as plans;
 ghost use Rattle.diphone_c.specs.Pull as pulls;
 use call::Answer;
@@ -93,7 +93,7 @@ pub extern "C" fn diphone_need(
         plans.needLeft (now (voice .entry)) (now (sheet .entry)) (numbers.settingsOf join 0 fold) (now (need .entry))
         ⌝ }
 {
-    match checking::check(voice, sheet, numbers::settings_of(join, 0, fold)) {
+    match checking::check(voice, sheet, call::settings_of(join, 0, fold)) {
         Checked::Refused(cause) => refusal::number(cause),
         Checked::Passed(fit) => planned::report_need(fit.need, need),
     }
@@ -132,7 +132,7 @@ pub extern "C" fn diphone_plan(
         (now (excitation .entry)) (now (decoded .entry)) (now (state .entry)) (now (summary .entry)))
         ⌝ }
 {
-    let settings = numbers::settings_of(join, filter, fold);
+    let settings = call::settings_of(join, filter, fold);
     match checking::check(voice, sheet, settings) {
         Checked::Refused(cause) => refusal::number(cause),
         Checked::Passed(fit) => planned::plan_checked(

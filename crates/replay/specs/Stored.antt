@@ -11,7 +11,7 @@ use Rattle.base.specs.Bytes.{u16At}
 use Rattle.text.specs.Names.{same}
 use Rattle.call.specs.declared.Settings.{Settings}
 use Rattle.call.specs.Buffers.{Buffers, lent}
-use Rattle.diphone_c.specs.Numbers as numbers
+use Rattle.call.specs.Numbers as numbers
 use Rattle.lines.specs.Lines.{refused}
 use Rattle.transcript.specs.CallText.{callText}
 use Rattle.replay.specs.declared.Found.{Found}

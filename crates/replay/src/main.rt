@@ -6,14 +6,10 @@ ghost use lib.ListN.{length, getD};
 ghost use Rattle.text.specs.Names.{same};
 ghost use Rattle.lines.specs.Lines.{Puts};
 ghost use Rattle.lines.specs.Lines as lines;
-ghost use Rattle.diphone_c.specs.Numbers as numbers;
-ghost use Rattle.diphone_c.specs.State as states;
 ghost use Rattle.replay.specs.Stored as stored;
 ghost use Rattle.replay.specs.Tallies as tally;
-use call::JoinType;
 use call::Settings;
 use libc::STDOUT_FILENO;
-use lpc::ResynthType;
 
 // ---- counting
 
@@ -79,38 +75,11 @@ impl Tally {
 
 // ---- the head of a stored call
 
-// The join of a number: 0 none, 1 simple, any other modified.
-fn join_of(n: u8) -> JoinType
-    ensures { λ r. ⌜ r ≡ numbers.joinOf n ⌝ }
-{
-    if n == 0 {
-        return JoinType::None;
-    }
-    if n == 1 {
-        return JoinType::Simple;
-    }
-    JoinType::ModifiedLpc
-}
-
-// The filter of a number: 0 fixed, any other float.
-fn filter_of(n: u8) -> ResynthType
-    ensures { λ r. ⌜ r ≡ states.filterOf n ⌝ }
-{
-    if n == 0 {
-        return ResynthType::Fixed;
-    }
-    ResynthType::Float
-}
-
 // The settings of a byte.
 fn settings_of(byte: u8) -> Settings
     ensures { λ r. ⌜ r ≡ stored.settingsOf byte ⌝ }
 {
-    Settings {
-        join: join_of(byte % 4),
-        filter: filter_of(byte / 4 % 2),
-        fold: byte / 8 != 0,
-    }
+    call::settings_of((byte % 4) as u32, (byte / 4 % 2) as u32, (byte / 8) as u32)
 }
 
 const LIMITS: [usize; 9] = [32768, 4096, 8192, 4096, 4096, 2048, 4096, 1024, 41000];

@@ -14,8 +14,8 @@ use Rattle.base.proofs.BufferLaws.{length-over, length-flat}
 use Rattle.base.proofs.ByteLaws.{length-bytesOf}
 use Rattle.base.proofs.ListLaws.{next-none, every-at}
 use Rattle.refusal.specs.declared.Refusal.{Refusal}
-use Rattle.refusal.specs.declared.Refusal.the-variants.{BadMagic, SectionCut, NotDiphone, MissingSection, BadHeader, BadTables, BadIndex, BadSheet, NotFinite, BadSlope, PastLimit, TooManyMarks, ShortBuffer, ShortSlice, BadState}
 use Rattle.refusal.specs.Number.{numberOf}
+use Rattle.refusal.proofs.NumberLaws.{number-low}
 use Rattle.voice.specs.Header.{goodNumbers, goodHeader}
 use Rattle.voice.specs.Voice.{Voice, voiceOf, voiceAt, placesOf}
 use Rattle.voice.specs.Opening.{openingRefusal}
@@ -192,25 +192,8 @@ module _ (file sheet : List ℕ) (settings : Settings) (b : Buffers) (r : Planne
       let t : r .state ≡ freshOf (voiceOf file) settings = ap (λ (p : Planned). p .state) p in
       rw (i, t, a) (record { spoke = spoke file sheet settings b bytes n h k; text = text-is file sheet settings b bytes n })
 
-number-low : (c : Refusal) → numberOf c < 100000
-number-low BadMagic = omega arith
-number-low SectionCut = omega arith
-number-low NotDiphone = omega arith
-number-low MissingSection = omega arith
-number-low BadHeader = omega arith
-number-low BadTables = omega arith
-number-low BadIndex = omega arith
-number-low BadSheet = omega arith
-number-low NotFinite = omega arith
-number-low BadSlope = omega arith
-number-low PastLimit = omega arith
-number-low TooManyMarks = omega arith
-number-low ShortBuffer = omega arith
-number-low ShortSlice = omega arith
-number-low BadState = omega arith
-
 pub taken-length : (n : ℕ) (s : List ℕ) → n ≤ length s → length (take n s) ≡ n
 taken-length n s h = rw length-take (omega arith)
 
 pub refused-low : {a : Called} {c : Refusal} {n : ℕ} → a ≡ Refused c → n ≡ numberOf c → n < 100000
-refused-low {a} {c} e q = rw q (number-low c)
+refused-low {a} {c} e q = let l = number-low c in omega arith

@@ -1,18 +1,14 @@
 use borrow.Author.Needs.{needs}
-use Rattle.diphone_c.specs.Numbers as numbers
-use Rattle.replay.specs.Stored as stored
+use Rattle.replay.specs.Stored.{settingsOf}
 use Rattle.replay.proofs.settings_of.Statement.{statement}
 use Rattle.replay.proofs.settings_of.Tie as tie
 
-join-of-requires : tie.Need-join-of-requires
-join-of-requires c κs = search needs
-
-filter-of-requires : tie.Need-filter-of-requires
-filter-of-requires c κs = search needs
+settings-of-requires : tie.Need-settings-of-requires
+settings-of-requires c κs = search needs
 
 returns : tie.Need-returns
-unfolding stored.settingsOf numbers.settingsOf
-returns c = let a = c .before .join-of .ensures in let b = c .filter-of .ensures in rw (a, b)
+unfolding settingsOf
+returns c = c .settings-of .ensures
 
 pub settings-of-spec : {M : Type 1} → statement M
-settings-of-spec = tie.close (tie.spec join-of-requires filter-of-requires returns)
+settings-of-spec = tie.close (tie.spec settings-of-requires returns)

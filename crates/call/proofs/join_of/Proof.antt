@@ -1,7 +1,7 @@
 use borrow.Author.Tests.{eq-eqb, ne-eqb}
-use Rattle.diphone_c.specs.Numbers.{joinOf}
-use Rattle.replay.proofs.join_of.Statement.{statement}
-use Rattle.replay.proofs.join_of.Tie as tie
+use Rattle.call.specs.Numbers.{joinOf}
+use Rattle.call.proofs.join_of.Statement.{statement}
+use Rattle.call.proofs.join_of.Tie as tie
 
 returns : tie.Need-returns
 unfolding joinOf

@@ -1,6 +1,6 @@
 use borrow.Author.Tests.{eq-eqb, ne-eqb}
-use Rattle.replay.proofs.filter_of.Statement.{statement}
-use Rattle.replay.proofs.filter_of.Tie as tie
+use Rattle.call.proofs.filter_of.Statement.{statement}
+use Rattle.call.proofs.filter_of.Tie as tie
 
 returns : tie.Need-returns
 returns c = rw (eq-eqb _ _ (c .if1 .taken))

@@ -1,0 +1,2 @@
+-- Laws about the numbers of refusals.
+pub mod NumberLaws
