@@ -1,7 +1,6 @@
 use mathlib.Core.Path.{_≡_, refl, sym, ap, _∙_}
 use mathlib.Core.List.{List}
 use Prim.Native.Nat.{ℕ, _-_, _/_}
-use native.Mathlib.Omega.{arith}
 use lib.ListN.{length, replicate, length-map}
 use mir.Facts.{toZ-ofZ}
 use Rattle.base.specs.Buffers.{over, upto}
