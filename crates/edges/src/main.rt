@@ -165,7 +165,8 @@ fn try_call(voice: &[u8]) {
     let h = read_file(b"order33.flv", &mut higher);
     let s = read_file(b"call.sht", &mut sheet);
     calls::try_orders(voice, &higher[..h], &sheet[..s]);
-    calls::try_buffers(voice, &sheet[..s]);
+    calls::try_elements(voice, &sheet[..s]);
+    calls::try_bytes(voice, &sheet[..s]);
     pulls::try_full(voice, &sheet[..s]);
 }
 
@@ -176,5 +177,6 @@ fn main() {
     let v = read_file(b"order32.flv", &mut voice);
     try_limits(&example[..e]);
     try_call(&voice[..v]);
-    calls::try_empty(&example[..e], &voice[..v]);
+    calls::try_empty(&example[..e]);
+    calls::try_empty_g721(&voice[..v]);
 }

@@ -1,6 +1,7 @@
 // The program's lines.
 use call::Answer;
 use call::Called;
+use call::Planned;
 use libc::STDOUT_FILENO;
 use refusal::Refusal;
 
@@ -28,7 +29,8 @@ pub fn refused(cause: Refusal) {
 }
 
 // What a call answered.
-pub fn called(answer: Called) {
+pub fn called(planned: Planned) {
+    let answer = planned.answer;
     match answer {
         Called::Refused(cause) => refused(cause),
         Called::Spoken(m) => {
