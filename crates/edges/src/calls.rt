@@ -43,18 +43,9 @@ fn plan_in(
     )
 }
 
-// Makes a call by the fixed filter that is lent so many bytes of each buffer.
-fn plan(
-    voice: &[u8],
-    sheet: &[u8],
-    join: JoinType,
-    index_len: isize,
-    marks_len: isize,
-    sizes_len: isize,
-    rows_len: isize,
-    excitation_len: isize,
-    decoded_len: isize,
-) -> Planned {
+// Makes a call by the fixed filter that is lent so many bytes of each buffer: index, marks, sizes, rows,
+// excitation and decoded.
+fn plan(voice: &[u8], sheet: &[u8], join: JoinType, lens: [isize; 6]) -> Planned {
     let mut index = [0u8; 16];
     let mut marks = [0u8; 262144];
     let mut sizes = [0u8; 32760];
@@ -70,57 +61,36 @@ fn plan(
         voice,
         sheet,
         settings,
-        index_len,
+        lens[0],
         &mut index,
-        marks_len,
+        lens[1],
         &mut marks,
-        sizes_len,
+        lens[2],
         &mut sizes,
-        rows_len,
+        lens[3],
         &mut rows,
-        excitation_len,
+        lens[4],
         &mut excitation,
-        decoded_len,
+        lens[5],
         &mut decoded,
     )
 }
 
 // Makes the call by the modified join, and prints its answer.
-fn make(
-    voice: &[u8],
-    sheet: &[u8],
-    index: isize,
-    marks: isize,
-    sizes: isize,
-    rows: isize,
-    excitation: isize,
-    decoded: isize,
-) {
-    let join = JoinType::ModifiedLpc;
-    let planned = plan(
-        voice,
-        sheet,
-        join,
-        index,
-        marks,
-        sizes,
-        rows,
-        excitation,
-        decoded,
-    );
-    print::called(planned);
+fn make(voice: &[u8], sheet: &[u8], lens: [isize; 6]) {
+    print::called(plan(voice, sheet, JoinType::ModifiedLpc, lens));
 }
 
 // A sheet of segments with no name. By the simple join each of 4,095 pairs gives the two periods, of 2
 // and 3 samples, of the voice's one entry.
 pub fn try_segments(voice: &[u8], sheet: &[u8]) {
-    let planned = plan(voice, sheet, JoinType::Simple, 8, 32760, 32760, 0, 20475, 0);
-    print::called(planned);
+    let lens = [8, 32760, 32760, 0, 20475, 0];
+    print::called(plan(voice, sheet, JoinType::Simple, lens));
 }
 
 // A sheet of 65,536 marks and more. Both target ends are 0, and so are the first eight marks.
 pub fn try_marks(voice: &[u8], sheet: &[u8]) {
-    make(voice, sheet, 8, 262144, 32, 0, 0, 0);
+    make(voice, sheet, [8, 262144, 32, 0, 0, 0]);
 }
 
 // Order 32 speaks, 33 is refused. The call needs two entries of 8 bytes, four marks of 4, three sizes
@@ -128,44 +98,44 @@ pub fn try_marks(voice: &[u8], sheet: &[u8]) {
 // period.
 pub fn try_orders(voice: &[u8], higher: &[u8], sheet: &[u8]) {
     print::text(b"order 32, buffers exactly full: ");
-    make(voice, sheet, 16, 16, 12, 192, 64, 16);
+    make(voice, sheet, [16, 16, 12, 192, 64, 16]);
     print::text(b"order 33: ");
-    make(higher, sheet, 16, 16, 12, 192, 64, 16);
+    make(higher, sheet, [16, 16, 12, 192, 64, 16]);
 }
 
 // Each buffer in turn is an element short.
 pub fn try_elements(voice: &[u8], sheet: &[u8]) {
     print::text(b"index one element short: ");
-    make(voice, sheet, 8, 16, 12, 192, 64, 16);
+    make(voice, sheet, [8, 16, 12, 192, 64, 16]);
     print::text(b"marks one element short: ");
-    make(voice, sheet, 16, 12, 12, 192, 64, 16);
+    make(voice, sheet, [16, 12, 12, 192, 64, 16]);
     print::text(b"sizes one element short: ");
-    make(voice, sheet, 16, 16, 8, 192, 64, 16);
+    make(voice, sheet, [16, 16, 8, 192, 64, 16]);
     print::text(b"rows one element short: ");
-    make(voice, sheet, 16, 16, 12, 190, 64, 16);
+    make(voice, sheet, [16, 16, 12, 190, 64, 16]);
     print::text(b"excitation one element short: ");
-    make(voice, sheet, 16, 16, 12, 192, 63, 16);
+    make(voice, sheet, [16, 16, 12, 192, 63, 16]);
     print::text(b"decoded one element short: ");
-    make(voice, sheet, 16, 16, 12, 192, 64, 15);
+    make(voice, sheet, [16, 16, 12, 192, 64, 15]);
 }
 
 // Each buffer whose elements have more than a byte is a byte short.
 pub fn try_bytes(voice: &[u8], sheet: &[u8]) {
     print::text(b"index one byte short: ");
-    make(voice, sheet, 15, 16, 12, 192, 64, 16);
+    make(voice, sheet, [15, 16, 12, 192, 64, 16]);
     print::text(b"marks one byte short: ");
-    make(voice, sheet, 16, 15, 12, 192, 64, 16);
+    make(voice, sheet, [16, 15, 12, 192, 64, 16]);
     print::text(b"sizes one byte short: ");
-    make(voice, sheet, 16, 16, 11, 192, 64, 16);
+    make(voice, sheet, [16, 16, 11, 192, 64, 16]);
     print::text(b"rows one byte short: ");
-    make(voice, sheet, 16, 16, 12, 191, 64, 16);
+    make(voice, sheet, [16, 16, 12, 191, 64, 16]);
 }
 
 // A call of no segments and no targets, and a pull from it that is lent nothing.
 fn speak_nothing(voice: &[u8], index: isize, decoded: isize) {
     let sheet = [0u8; 2];
-    let join = JoinType::ModifiedLpc;
-    let planned = plan(voice, &sheet, join, index, 0, 0, 0, 0, decoded);
+    let lens = [index, 0, 0, 0, 0, decoded];
+    let planned = plan(voice, &sheet, JoinType::ModifiedLpc, lens);
     print::called(planned);
     let state = planned.state;
     let mut samples = [0u8; 2];
@@ -178,11 +148,11 @@ fn speak_nothing(voice: &[u8], index: isize, decoded: isize) {
 pub fn try_empty(voice: &[u8]) {
     let none = [0u8; 2];
     print::text(b"all empty: ");
-    make(b"", b"", 0, 0, 0, 0, 0, 0);
+    make(b"", b"", [0, 0, 0, 0, 0, 0]);
     print::text(b"empty file as sheet: ");
-    make(voice, b"", 8, 0, 0, 0, 0, 0);
+    make(voice, b"", [8, 0, 0, 0, 0, 0]);
     print::text(b"no segments, mu-law, no buffer: ");
-    make(voice, &none, 0, 0, 0, 0, 0, 0);
+    make(voice, &none, [0, 0, 0, 0, 0, 0]);
     print::text(b"no segments, mu-law, index alone: ");
     speak_nothing(voice, 8, 0);
 }
@@ -191,7 +161,7 @@ pub fn try_empty(voice: &[u8]) {
 pub fn try_empty_g721(voice: &[u8]) {
     let none = [0u8; 2];
     print::text(b"no segments, G.721, index alone: ");
-    make(voice, &none, 16, 0, 0, 0, 0, 0);
+    make(voice, &none, [16, 0, 0, 0, 0, 0]);
     print::text(b"no segments, G.721, index and decoded: ");
     speak_nothing(voice, 16, 16);
 }
