@@ -109,41 +109,11 @@ fn try_places(state: FilterState, sizes: &[u8], rows: &[u8], excitation: &[u8]) 
     make(s, sizes, rows, excitation, &mut samples, 64);
 }
 
-// Scales at the limits, and the next f32 past them.
-fn try_scales(state: FilterState, sizes: &[u8], rows: &[u8], excitation: &[u8]) {
-    let mut samples = [0u8; 64];
-    let mut s = state;
-    s.coeff_min = 16.0;
-    s.coeff_range = -16.0;
-    print::text(b"state with scales 16 and -16: ");
-    make(s, sizes, rows, excitation, &mut samples, 64);
-    s.coeff_min = 16.000002;
-    print::text(b"state with coeff_min above 16: ");
-    make(s, sizes, rows, excitation, &mut samples, 64);
-    s.coeff_min = 16.0;
-    s.coeff_range = -16.000002;
-    print::text(b"state with coeff_range below -16: ");
-    make(s, sizes, rows, excitation, &mut samples, 64);
-}
-
-// Rows that end with the next one, and within it.
-fn try_rows(state: FilterState, sizes: &[u8], rows: &[u8], excitation: &[u8]) {
-    let mut samples = [0u8; 64];
-    let whole = io::count(64, rows);
-    print::text(b"rows end with the next one: ");
-    make(state, sizes, &rows[..whole], excitation, &mut samples, 64);
-    let cut = io::count(63, rows);
-    print::text(b"rows end a byte before: ");
-    make(state, sizes, &rows[..cut], excitation, &mut samples, 64);
-}
-
 // Pulls from a call's fresh state.
 fn try_pulls(state: FilterState, sizes: &[u8], rows: &[u8], excitation: &[u8]) {
     try_periods(state, sizes, rows, excitation);
     try_rings(state, sizes, rows, excitation);
     try_places(state, sizes, rows, excitation);
-    try_scales(state, sizes, rows, excitation);
-    try_rows(state, sizes, rows, excitation);
 }
 
 // Pulls from a call that fills these buffers.
