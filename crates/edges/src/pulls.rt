@@ -116,17 +116,11 @@ fn try_pulls(state: FilterState, sizes: &[u8], rows: &[u8], excitation: &[u8]) {
     try_places(state, sizes, rows, excitation);
 }
 
-// Pulls from a call that fills these buffers.
-fn try_call(
-    voice: &[u8],
-    sheet: &[u8],
-    index: &mut [u8],
-    marks: &mut [u8],
-    sizes: &mut [u8],
-    rows: &mut [u8],
-    excitation: &mut [u8],
-    decoded: &mut [u8],
-) {
+// Pulls from a call that fills these buffers, and others that are exactly full too.
+fn try_call(voice: &[u8], sheet: &[u8], sizes: &mut [u8], rows: &mut [u8], excitation: &mut [u8]) {
+    let mut index = [0u8; 16];
+    let mut marks = [0u8; 16];
+    let mut decoded = [0u8; 16];
     let settings = Settings {
         join: JoinType::ModifiedLpc,
         filter: ResynthType::Fixed,
@@ -136,12 +130,12 @@ fn try_call(
         voice,
         sheet,
         settings,
-        index,
-        marks,
+        &mut index,
+        &mut marks,
         sizes,
         rows,
         excitation,
-        decoded,
+        &mut decoded,
     );
     let answer = planned.answer;
     let state = planned.state;
@@ -153,20 +147,8 @@ fn try_call(
 
 // Pulls from a call whose buffers are exactly full.
 pub fn try_full(voice: &[u8], sheet: &[u8]) {
-    let mut index = [0u8; 16];
-    let mut marks = [0u8; 16];
     let mut sizes = [0u8; 12];
     let mut rows = [0u8; 192];
     let mut excitation = [0u8; 64];
-    let mut decoded = [0u8; 16];
-    try_call(
-        voice,
-        sheet,
-        &mut index,
-        &mut marks,
-        &mut sizes,
-        &mut rows,
-        &mut excitation,
-        &mut decoded,
-    );
+    try_call(voice, sheet, &mut sizes, &mut rows, &mut excitation);
 }
