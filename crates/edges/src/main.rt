@@ -1,4 +1,4 @@
-// Tries the edges of document 01 that are too long to compute by hand.
+// Tries the edges of document 01 as it runs, most of them through whole calls and their pulls.
 mod calls;
 mod print;
 mod pulls;
