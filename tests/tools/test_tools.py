@@ -1,4 +1,4 @@
-"""Tests of tools/sheet, tools/voice-info, tools/make-example and tools/draw."""
+"""Tests of tools/sheet, tools/voice-info, tools/make-example, tools/make-edges and tools/draw."""
 import collections
 import contextlib
 import importlib.machinery
@@ -261,6 +261,9 @@ class Examples(unittest.TestCase):
     def test_a_difference_is_seen(self):
         status, text, _ = run_alone("make-example", "--check", "--seed", "2")
         self.assertEqual((status, text), (1, b"examples that differ: yard.flv\n"))
+
+    def test_edges_made_anew(self):
+        self.assertEqual(run_alone("make-edges", "--check"), (0, b"edges that differ: none\n", ""))
 
     def test_document_bytes(self):
         voice = dict(cases.sections_of((EXAMPLES / "example.flv").read_bytes()))

@@ -5,7 +5,6 @@ use Rattle.diphone_c.proofs.diphone_need.Statement.{statement}
 use Rattle.diphone_c.proofs.diphone_need.Tie as tie
 use Rattle.diphone_c.proofs.diphone_need.Reads as reads
 use Rattle.diphone_c.proofs.diphone_need.Lts as lts
-use Rattle.diphone_c.proofs.numbers.settings_of.Reads as settings-of-reads
 use Rattle.diphone_c.proofs.planned.report_need.Reads as report-need-reads
 use Rattle.refusal.proofs.number.Reads as number-reads
 

@@ -7,7 +7,6 @@ use Rattle.diphone_c.proofs.diphone_plan.Statement.{statement}
 use Rattle.diphone_c.proofs.diphone_plan.Tie as tie
 use Rattle.diphone_c.proofs.diphone_plan.Reads as reads
 use Rattle.diphone_c.proofs.diphone_plan.Lts as lts
-use Rattle.diphone_c.proofs.numbers.settings_of.Reads as settings-of-reads
 use Rattle.diphone_c.proofs.planned.plan_checked.Reads as plan-checked-reads
 use Rattle.refusal.proofs.number.Reads as number-reads
 

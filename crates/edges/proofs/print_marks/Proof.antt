@@ -9,11 +9,8 @@ read-sheet-requires c κs = search needs
 enum-known-cause : tie.Need-enum-known-cause
 enum-known-cause c = search needs
 
-number-requires : tie.Need-number-requires
-number-requires c κs = search needs
-
-print-refused-requires : tie.Need-print-refused-requires
-print-refused-requires c κs = search needs
+refused-requires : tie.Need-refused-requires
+refused-requires c κs = search needs
 
 enum-known-places : tie.Need-enum-known-places
 enum-known-places c = search needs
@@ -33,8 +30,7 @@ print-marks-spec =
     (tie.spec
     read-sheet-requires
     enum-known-cause
-    number-requires
-    print-refused-requires
+    refused-requires
     enum-known-places
     print-marks-of-requires
     returns
