@@ -79,7 +79,8 @@ impl Tally {
 fn settings_of(byte: u8) -> Settings
     ensures { λ r. ⌜ r ≡ stored.settingsOf byte ⌝ }
 {
-    call::settings_of((byte % 4) as u32, (byte / 4 % 2) as u32, (byte / 8) as u32)
+    let n = byte as u32;
+    call::settings_of(n % 4, n / 4 % 2, n / 8)
 }
 
 const LIMITS: [usize; 9] = [32768, 4096, 8192, 4096, 4096, 2048, 4096, 1024, 41000];

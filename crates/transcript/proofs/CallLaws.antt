@@ -14,6 +14,7 @@ use Rattle.base.proofs.BufferLaws.{length-over, length-flat}
 use Rattle.base.proofs.ByteLaws.{length-bytesOf}
 use Rattle.base.proofs.ListLaws.{next-none, every-at}
 use Rattle.refusal.specs.declared.Refusal.{Refusal}
+use Rattle.refusal.specs.declared.Refusal.the-variants.{ShortBuffer}
 use Rattle.refusal.specs.Number.{numberOf}
 use Rattle.refusal.proofs.NumberLaws.{number-low}
 use Rattle.voice.specs.Header.{goodNumbers, goodHeader}
