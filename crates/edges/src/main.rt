@@ -158,7 +158,7 @@ fn try_limits(voice: &[u8]) {
     try_calls_of_marks(voice);
 }
 
-// The call of call.sht by a voice of order 32, and its pulls.
+// The call of call.sht by a voice of order 32, and pulls.
 fn try_call(voice: &[u8]) {
     let mut higher = io::buffer();
     let mut sheet = io::buffer();
@@ -167,7 +167,7 @@ fn try_call(voice: &[u8]) {
     calls::try_orders(voice, &higher[..h], &sheet[..s]);
     calls::try_elements(voice, &sheet[..s]);
     calls::try_bytes(voice, &sheet[..s]);
-    pulls::try_full(voice, &sheet[..s]);
+    pulls::try_all();
 }
 
 fn main() {

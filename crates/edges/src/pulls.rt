@@ -1,8 +1,5 @@
 // Pulls at the edges of what document 01 admits.
 use crate::print;
-use call::Called;
-use call::JoinType;
-use call::Settings;
 use lpc::FilterState;
 use lpc::ResynthType;
 
@@ -116,39 +113,14 @@ fn try_pulls(state: FilterState, sizes: &[u8], rows: &[u8], excitation: &[u8]) {
     try_places(state, sizes, rows, excitation);
 }
 
-// Pulls from a call that fills these buffers, and others that are exactly full too.
-fn try_call(voice: &[u8], sheet: &[u8], sizes: &mut [u8], rows: &mut [u8], excitation: &mut [u8]) {
-    let mut index = [0u8; 16];
-    let mut marks = [0u8; 16];
-    let mut decoded = [0u8; 16];
-    let settings = Settings {
-        join: JoinType::ModifiedLpc,
-        filter: ResynthType::Fixed,
-        fold: false,
-    };
-    let planned = diphone::plan(
-        voice,
-        sheet,
-        settings,
-        &mut index,
-        &mut marks,
-        sizes,
-        rows,
-        excitation,
-        &mut decoded,
-    );
-    let answer = planned.answer;
-    let state = planned.state;
-    match answer {
-        Called::Refused(cause) => print::refused(cause),
-        Called::Spoken(_) => try_pulls(state, sizes, rows, excitation),
-    }
-}
-
-// Pulls from a call whose buffers are exactly full.
-pub fn try_full(voice: &[u8], sheet: &[u8]) {
+// Pulls from the fresh state of a call of order 32 that has filled three sizes, three rows and 64 bytes of
+// excitation.
+pub fn try_all() {
     let mut sizes = [0u8; 12];
-    let mut rows = [0u8; 192];
-    let mut excitation = [0u8; 64];
-    try_call(voice, sheet, &mut sizes, &mut rows, &mut excitation);
+    sizes[0] = 32;
+    sizes[8] = 32;
+    let rows = [129u8; 192];
+    let excitation = [159u8; 64];
+    let state = FilterState::fresh(ResynthType::Fixed, 32, -1.0, 2.0);
+    try_pulls(state, &sizes, &rows, &excitation);
 }
