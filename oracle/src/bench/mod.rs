@@ -35,8 +35,8 @@ pub fn run(args: &Args) -> bool {
     }
     if generated && args.only.is_none() {
         println!("oracle bench: the same sheets on wider voices; µs a call, best: here, the Rust");
-        for (times, files) in synthetic::wider(args.seed) {
-            widened(times, files, rounds);
+        for settings in fixed() {
+            widened(synthetic::wider(args.seed), settings, rounds);
         }
     }
     true
@@ -64,11 +64,9 @@ fn bench(name: &str, files: Files, rounds: usize, only: Option<&str>) {
         return;
     }
     let longest = sheets.iter().max_by_key(|sheet| sheet.segments.len());
-    for settings in settings(None).into_iter().filter(|s| s.filter == Filter::Fixed) {
+    for settings in fixed() {
         println!("  {}, a sheet repeated; µs a call, best: here, the Rust", label(settings));
-        for times in REPEATED {
-            grown(voice, longest.expect("a sheet"), times, settings, rounds);
-        }
+        grown(voice, longest.expect("a sheet"), settings, rounds);
     }
 }
 
@@ -84,6 +82,12 @@ fn settings(only: Option<&str>) -> Vec<Settings> {
         }
     }
     all.retain(|settings| only.is_none_or(|only| only == label(*settings)));
+    all
+}
+
+fn fixed() -> Vec<Settings> {
+    let mut all = settings(None);
+    all.retain(|settings| settings.filter == Filter::Fixed);
     all
 }
 
@@ -121,34 +125,40 @@ fn show(calls: &[Timed], rounds: usize, samples: usize) {
     line("open, µs", &[Part::Open], &[Part::RustParse], opened);
 }
 
-/// The cost of a sheet that is a sheet several times over.
-fn grown(voice: &'static [u8], sheet: &Sheet, times: usize, settings: Settings, rounds: usize) {
-    let long = synthetic::repeated(sheet, times);
-    let mut call = Timed::new(voice, &long, settings);
+/// The cost of sheets that are a sheet several times over. The lengths take
+/// turns, so that a processor that slows down meets them all.
+fn grown(voice: &'static [u8], sheet: &Sheet, settings: Settings, rounds: usize) {
+    let sheets = REPEATED.map(|times| synthetic::repeated(sheet, times));
+    let mut calls: Vec<Timed> = sheets
+        .iter()
+        .map(|sheet| Timed::new(voice, sheet, settings))
+        .collect();
     for _ in 0..rounds {
-        call.round();
+        calls.iter_mut().for_each(Timed::round);
     }
-    let [need, plan, pulls, whole] =
-        [Part::Need, Part::Plan, Part::Pulls, Part::RustWhole].map(|part| call.costs.at(&[part], 0) * 1e6);
-    println!(
-        "    {:4} segments, {:7} samples: need {need:8.1}, plan {plan:8.1}, pulls {pulls:8.1}; {whole:8.1}",
-        long.segments.len(),
-        call.samples,
-    );
+    for (sheet, call) in sheets.iter().zip(&calls) {
+        let [need, plan, pulls, whole] =
+            [Part::Need, Part::Plan, Part::Pulls, Part::RustWhole].map(|part| call.costs.at(&[part], 0) * 1e6);
+        println!(
+            "    {:4} segments, {:7} samples: need {need:8.1}, plan {plan:8.1}, pulls {pulls:8.1}; {whole:8.1}",
+            sheet.segments.len(),
+            call.samples,
+        );
+    }
 }
 
-/// The cost of sheets on a voice several times as large.
-fn widened(times: usize, files: Files, rounds: usize) {
-    let voice: &'static [u8] = Box::leak(files.voice.into_boxed_slice());
-    let sheets: Vec<Sheet> = files.sheets.iter().map(|(name, bytes)| read(name, bytes)).collect();
-    for settings in settings(None).into_iter().filter(|s| s.filter == Filter::Fixed) {
-        let mut calls: Vec<Timed> = sheets
-            .iter()
-            .map(|sheet| Timed::new(voice, sheet, settings))
-            .collect();
-        for _ in 0..rounds {
+/// The cost of the same sheets on voices of several extents, which take turns.
+fn widened(voices: Vec<(usize, Files)>, settings: Settings, rounds: usize) {
+    let mut calls: Vec<(usize, Vec<Timed>)> = voices
+        .into_iter()
+        .map(|(times, files)| (times, timed(files, settings)))
+        .collect();
+    for _ in 0..rounds {
+        for (_, calls) in &mut calls {
             calls.iter_mut().for_each(Timed::round);
         }
+    }
+    for (times, calls) in &calls {
         let each = |part: Part| -> f64 {
             let total: f64 = calls.iter().map(|call| call.costs.at(&[part], 0)).sum();
             total * 1e6 / calls.len() as f64
@@ -156,12 +166,17 @@ fn widened(times: usize, files: Files, rounds: usize) {
         let [open, plan, pulls] = [Part::Open, Part::Plan, Part::Pulls].map(each);
         let [parse, whole] = [Part::RustParse, Part::RustWhole].map(each);
         println!(
-            "  {} x, {}: open {open:7.1}, plan without it {:7.1}, pulls {pulls:8.1}; \
+            "  {times} x, {}: open {open:7.1}, plan without it {:7.1}, pulls {pulls:8.1}; \
              {parse:7.1}, without it {:8.1}",
-            times,
             label(settings),
             plan - open,
             whole - parse,
         );
     }
+}
+
+fn timed(files: Files, settings: Settings) -> Vec<Timed> {
+    let voice: &'static [u8] = Box::leak(files.voice.into_boxed_slice());
+    let sheets = files.sheets.iter().map(|(name, bytes)| read(name, bytes));
+    sheets.map(|sheet| Timed::new(voice, &sheet, settings)).collect()
 }
