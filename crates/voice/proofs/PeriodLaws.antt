@@ -18,7 +18,7 @@ use Rattle.base.proofs.ListLaws.{and-left, and-right}
 use Rattle.base.proofs.BufferLaws.{upto-same}
 use Rattle.base.proofs.ByteLaws.{littleEndian-same}
 use Rattle.voice.specs.Voice.{Voice}
-use Rattle.voice.specs.Periods.{offset, gap, residualOf, sizedBy, samplesOf, samplesFrom, rowOf}
+use Rattle.voice.specs.Periods.{offset, gap, residualOf, sizedBy, samplesOf, samplesFrom, rowOf, longest}
 use Rattle.voice.specs.Opening.{risingIn, rising}
 use Rattle.voice.specs.Extends.{Extends, SameSizes, neither, both}
 
@@ -116,3 +116,8 @@ pub samplesFrom-same : (v w : Voice) (n : ℕ) → Agree v w n → (p k : ℕ) �
 unfolding samplesFrom
 samplesFrom-same v w n g p zero h = refl
 samplesFrom-same v w n g p (suc k) h = rw (g .samples p (omega arith), samplesFrom-same v w n g (suc p) k (omega arith))
+
+-- a period that is no longer than those before it leaves the longest
+pub longest-stays : (v : Voice) (p most : ℕ) → longest v p ≡ most → gap v p ≤ most → longest v (suc p) ≡ most
+unfolding longest
+longest-stays v p most e h = omega (arith, e, h)

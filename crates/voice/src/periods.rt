@@ -76,6 +76,26 @@ fn larger(a: usize, b: usize) -> usize
     a
 }
 
+// The first period from `from` on that is longer than `most`, the longest before; the count of frames where
+// none is. A walk that ends there needs no maximum at each step.
+fn next_longer(file: &[u8], d: DiphoneVoice, from: usize, most: usize) -> usize
+    requires { ⌜ IsOpen (now file) d × ((from ≤ d .header .frames) × (most ≡ periods.longest (voiceOf (now file)) from)) ⌝ }
+    ensures { λ r. ⌜ (periods.longest (voiceOf (now (file .entry))) r ≡ most) × ((from ≤ r) × (r ≤ d .header .frames)) ⌝ }
+{
+    let frames = d.header.frames as usize;
+    let mut begin = offset(file, d, from);
+    let mut p = from;
+    while p < frames {
+        let end = offset(file, d, p + 1);
+        if most < end - begin {
+            return p;
+        }
+        begin = end;
+        p += 1;
+    }
+    p
+}
+
 // The bytes of the longest period.
 fn longest(file: &[u8], d: DiphoneVoice) -> usize
     requires { ⌜ IsOpen (now file) d ⌝ }
@@ -83,13 +103,10 @@ fn longest(file: &[u8], d: DiphoneVoice) -> usize
 {
     let frames = d.header.frames as usize;
     let mut most = 0;
-    let mut begin = offset(file, d, 0);
-    let mut p = 0;
+    let mut p = next_longer(file, d, 0, 0);
     while p < frames {
-        let end = offset(file, d, p + 1);
-        most = larger(end - begin, most);
-        begin = end;
-        p += 1;
+        most = larger(gap(file, d, p), most);
+        p = next_longer(file, d, p + 1, most);
     }
     most
 }
