@@ -30,6 +30,7 @@ spokenText v s settings =
     let m = summaryOf v s settings in
     summary (m .rate) (m .periods) (m .samples) ++ periods (periodsOf v s settings)
 
+-- 'A refusal prints only `refused`, a space and the number'
 abbrev pub textBy : Voice → Sheet → Settings → Option Refusal → List ℕ
 textBy v s settings none = spokenText v s settings
 textBy v s settings (some r) = refused (numberOf r)
@@ -74,5 +75,6 @@ pub record Spoke (m : Summary) (s : FilterState) (sizes rows excitation : List �
   pub excitationThere : m .samples ≤ length excitation
   pub fresh : Fresh s (front m sizes rows excitation)
 
+-- the text by what the call left
 unfoldable pub spokenBy : Summary → FilterState → List ℕ → List ℕ → List ℕ → List ℕ
 spokenBy m s sizes rows excitation = summary (m .rate) (m .periods) (m .samples) ++ periods (periodsFor s (front m sizes rows excitation))

@@ -5,7 +5,7 @@ ghost use Prim.Native.Nat.{_+_, _≤_};
 ghost use lib.ListN.{length};
 ghost use Rattle.lines.specs.Lines.{Puts};
 ghost use Rattle.lines.specs.Lines as lines;
-ghost use Rattle.call.specs.Buffers.{lent};
+ghost use Rattle.call.specs.Buffers.{lent, buffersAfter};
 ghost use Rattle.call.specs.Pull.{lentOf};
 ghost use Rattle.transcript.specs.CallText as text;
 use call::Answer;
@@ -98,6 +98,12 @@ pub fn put_call(
         (now (out .exit)) r
         ⌝ }
     ensures { λ r. ⌜ r ≤ 41000 ⌝ }
+    ensures { λ _.
+        ⌜
+        lent (now (index .exit)) (now (marks .exit)) (now (sizes .exit)) (now (rows .exit)) (now (excitation .exit)) (now (decoded .exit)) ≡
+        buffersAfter (now (voice .entry)) (now (sheet .entry)) settings
+        (lent (now (index .entry)) (now (marks .entry)) (now (sizes .entry)) (now (rows .entry)) (now (excitation .entry)) (now (decoded .entry)))
+        ⌝ }
 {
     let planned = diphone::plan(
         voice,

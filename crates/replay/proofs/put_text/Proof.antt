@@ -89,7 +89,7 @@ returns c =
     text-by (x .head .now) (x .voice .now) (x .sheet .now) (o .settings-of .ensures)
     (a .before .length-at .ensures .0) (a .length-at2 .ensures .0) (b .length-at3 .ensures .0) (d .length-at4 .ensures .0) (e .length-at5 .ensures .0) (f .length-at6 .ensures .0)
     in
-    (rw t at (p .0), p .1)
+    (rw t at (p .0), p .1 .0)
 
 pub put-text-spec : {M : Type 1} → statement M
 put-text-spec =

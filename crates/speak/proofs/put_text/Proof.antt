@@ -76,7 +76,7 @@ unfolding textOf
 returns-3 c =
     let p = c .before .before .before .before .before .before .before .before .put-call .ensures in
     let x = c .before .before .before .before .before .before .before .before .before .before .before .before .before .before .before .before .before .before .before .before .before in
-    (rw (le-ltb _ _ (c .before .before .before .before .before .before .before .before .before .before .before .before .before .before .before .before .before .if1 .left), le-ltb _ _ (c .before .before .before .before .before .before .before .before .before .before .before .before .before .before .before .before .if2 .left)) (p .0), counts-by _ _ (omega (arith, p .1, put-length (p .0), x .pre)))
+    (rw (le-ltb _ _ (c .before .before .before .before .before .before .before .before .before .before .before .before .before .before .before .before .before .if1 .left), le-ltb _ _ (c .before .before .before .before .before .before .before .before .before .before .before .before .before .before .before .before .if2 .left)) (p .0), counts-by _ _ (omega (arith, p .1 .0, put-length (p .0), x .pre)))
 
 pub put-text-spec : {M : Type 1} → statement M
 put-text-spec =

@@ -53,7 +53,7 @@ returns c =
     let x = l .before .before .before .before .before .before .before .before .before .before .before .before .before .before .before .before in
     let h = hands _ _ _ _ _ (l .plan .ensures .0) (λ i. let z = l .before .before .before .before .before .before .before .before .before .before .before .before .before .before .before .shared-slice-known .given i in omega arith) _ (l .plan .ensures .1) _ (c .before .before .before .before .before .before .before .before .answer .given .1) (x .pre .0) (x .pre .1 .0) in
     let p = c .before .before .put-spoken .ensures in
-    (rw (h .text) at (p .0), p .1)
+    (rw (h .text) at (p .0), (p .1, l .plan .ensures .1))
 
 same-length-8 : tie.Need-same-length-8
 same-length-8 c = search needs
@@ -79,9 +79,10 @@ same-length-14 c = search needs
 returns-2 : tie.Need-returns-2
 returns-2 c =
     let p = c .before .before .put-refused .ensures in
-    let e = refused-text _ _ _ _ _ (c .before .before .before .before .before .before .before .before .before .before .before .before .before .before .before .before .before .before .before .before .before .plan .ensures .0) _ (c .before .before .before .before .before .before .answer2 .given .1) in
+    let l = c .before .before .before .before .before .before .before .before .before .before .before .before .before .before .before .before .before .before .before .before .before in
+    let e = refused-text _ _ _ _ _ (l .plan .ensures .0) _ (c .before .before .before .before .before .before .answer2 .given .1) in
     let n = c .before .before .before .before .number .ensures in
-    (rw e (rw n at (p .0)), omega (arith, p .1))
+    (rw e (rw n at (p .0)), (omega (arith, p .1), l .plan .ensures .1))
 
 pub put-call-spec : {M : Type 1} → statement M
 put-call-spec =
