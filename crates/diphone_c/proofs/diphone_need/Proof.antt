@@ -3,47 +3,34 @@ use Rattle.diphone_c.proofs.PlannedLaws.{need-refused, need-passed}
 use borrow.Author.Needs.{needs}
 use Rattle.diphone_c.proofs.diphone_need.Statement.{statement}
 use Rattle.diphone_c.proofs.diphone_need.Tie as tie
-use Rattle.diphone_c.proofs.diphone_need.Reads as reads
-use Rattle.diphone_c.proofs.diphone_need.Lts as lts
-use Rattle.diphone_c.proofs.planned.report_need.Reads as report-need-reads
-use Rattle.refusal.proofs.number.Reads as number-reads
 
--- src/lib.rt:84:37
 settings-of-requires : tie.Need-settings-of-requires
 settings-of-requires c κs = search needs
 
--- src/lib.rt:84:11
 check-requires : tie.Need-check-requires
 check-requires c κs = search needs
 
--- src/lib.rt:85:26
 enum-known-cause : tie.Need-enum-known-cause
 enum-known-cause c = search needs
 
--- src/lib.rt:85:36
 number-requires : tie.Need-number-requires
 number-requires c κs = search needs
 
--- src/lib.rt:86:25
 enum-known-fit : tie.Need-enum-known-fit
 enum-known-fit c = search needs
 
--- src/lib.rt:86:33
 report-need-requires : tie.Need-report-need-requires
 report-need-requires c κs = search needs
 
--- src/lib.rt:73:1
 returns : tie.Need-returns
 returns c =
     let s = c .before .before .before .before .before .before .before .before .before in
     let a = s .args in
     need-refused (a .voice .now) (a .sheet .now) _ (a .need .now) _ _ (checks-refused (a .voice .now) (a .sheet .now) (c .before .before .before .before .before .settings-of .ensures) (c .before .before .before .before .check .ensures) (c .before .before .cause .given .1)) (c .number .ensures)
 
--- src/lib.rt:73:1
 same-length : tie.Need-same-length
 same-length c = search needs
 
--- src/lib.rt:73:1
 returns-2 : tie.Need-returns-2
 returns-2 c =
     let s = c .before .before .before .before .before .before .before .before .before .before .before .before in

@@ -5,38 +5,27 @@ use Rattle.diphone_c.proofs.PlannedLaws.{by-settings, plan-refused, che
 use borrow.Author.Needs.{needs}
 use Rattle.diphone_c.proofs.diphone_plan.Statement.{statement}
 use Rattle.diphone_c.proofs.diphone_plan.Tie as tie
-use Rattle.diphone_c.proofs.diphone_plan.Reads as reads
-use Rattle.diphone_c.proofs.diphone_plan.Lts as lts
-use Rattle.diphone_c.proofs.planned.plan_checked.Reads as plan-checked-reads
-use Rattle.refusal.proofs.number.Reads as number-reads
 
--- src/lib.rt:121:9
 settings-of-requires : tie.Need-settings-of-requires
 settings-of-requires c κs = search needs
 
--- src/lib.rt:122:11
 check-requires : tie.Need-check-requires
 check-requires c κs = search needs
 
--- src/lib.rt:123:26
 enum-known-cause : tie.Need-enum-known-cause
 enum-known-cause c = search needs
 
--- src/lib.rt:123:36
 number-requires : tie.Need-number-requires
 number-requires c κs = search needs
 
--- src/lib.rt:124:25
 enum-known-fit : tie.Need-enum-known-fit
 enum-known-fit c = search needs
 
--- src/lib.rt:124:33
 plan-checked-requires : tie.Need-plan-checked-requires
 plan-checked-requires c κs =
     let a = c .before .before .before .before .before .before .before .before .before .before .before .before .before .before .before .before .before .before .before .before .before .before .before .args in
     checks-passed (a .voice .now) (a .sheet .now) refl (c .before .before .before .before .before .before .before .before .before .before .before .check .ensures) (c .before .before .before .before .before .before .before .before .before .fit .given .1)
 
--- src/lib.rt:92:1
 returns : tie.Need-returns
 returns c =
     let s = c .before .before .before .before .before .before .before .before .before .before .before .before .before .before .before .before in
@@ -44,39 +33,30 @@ returns c =
     let h = (handed (a .index .now) (a .marks .now) (a .sizes .now) (a .rows .now) (a .excitation .now) (a .decoded .now) (a .state .now) (a .summary .now)) in
     plan-refused (a .voice .now) (a .sheet .now) _ h _ _ (check-refused (a .voice .now) (a .sheet .now) _ h _ (checks-refused (a .voice .now) (a .sheet .now) (c .before .before .before .before .before .settings-of .ensures) (c .before .before .before .before .check .ensures) (c .before .before .cause .given .1))) (c .number .ensures)
 
--- src/lib.rt:92:1
 same-length : tie.Need-same-length
 same-length c = search needs
 
--- src/lib.rt:92:1
 same-length-2 : tie.Need-same-length-2
 same-length-2 c = search needs
 
--- src/lib.rt:92:1
 same-length-3 : tie.Need-same-length-3
 same-length-3 c = search needs
 
--- src/lib.rt:92:1
 same-length-4 : tie.Need-same-length-4
 same-length-4 c = search needs
 
--- src/lib.rt:92:1
 same-length-5 : tie.Need-same-length-5
 same-length-5 c = search needs
 
--- src/lib.rt:92:1
 same-length-6 : tie.Need-same-length-6
 same-length-6 c = search needs
 
--- src/lib.rt:92:1
 same-length-7 : tie.Need-same-length-7
 same-length-7 c = search needs
 
--- src/lib.rt:92:1
 same-length-8 : tie.Need-same-length-8
 same-length-8 c = search needs
 
--- src/lib.rt:92:1
 returns-2 : tie.Need-returns-2
 returns-2 c =
     let a = c .before .before .before .before .before .before .before .before .before .before .before .before .before .before .before .before .before .before .before .before .before .before .before .before .before .before .before .before .before .before .before .before .before .before .before .before .before .before .before .before .args in

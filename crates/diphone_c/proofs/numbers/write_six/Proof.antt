@@ -2,39 +2,28 @@ use Rattle.diphone_c.proofs.NumberLaws.{six-written}
 use borrow.Author.Needs.{needs}
 use Rattle.diphone_c.proofs.numbers.write_six.Statement.{statement}
 use Rattle.diphone_c.proofs.numbers.write_six.Tie as tie
-use Rattle.diphone_c.proofs.numbers.write_six.Reads as reads
-use Rattle.diphone_c.proofs.numbers.write_six.Lts as lts
-use Rattle.base.proofs.bytes.put_u64.Reads as put-u64-reads
 
--- src/numbers.rt:52:5
 put-u64-requires : tie.Need-put-u64-requires
 put-u64-requires c κs = search needs
 
--- src/numbers.rt:53:5
 put-u64-requires-2 : tie.Need-put-u64-requires-2
 put-u64-requires-2 c κs = search needs
 
--- src/numbers.rt:54:5
 put-u64-requires-3 : tie.Need-put-u64-requires-3
 put-u64-requires-3 c κs = search needs
 
--- src/numbers.rt:55:5
 put-u64-requires-4 : tie.Need-put-u64-requires-4
 put-u64-requires-4 c κs = search needs
 
--- src/numbers.rt:56:5
 put-u64-requires-5 : tie.Need-put-u64-requires-5
 put-u64-requires-5 c κs = search needs
 
--- src/numbers.rt:57:5
 put-u64-requires-6 : tie.Need-put-u64-requires-6
 put-u64-requires-6 c κs = search needs
 
--- src/numbers.rt:48:1
 same-length : tie.Need-same-length
 same-length c = search needs
 
--- src/numbers.rt:48:1
 returns : tie.Need-returns
 returns c =
     let s = c .before .before .before .before .before .before .before .before .before .before .before .before .before .before .before .before .before .before .before .before .before .before .before .before .before in

@@ -4,16 +4,10 @@ use Rattle.diphone_c.proofs.PlannedLaws.{plan-refused, state-short, sum
 use borrow.Author.Needs.{needs}
 use Rattle.diphone_c.proofs.planned.plan_checked.Statement.{statement}
 use Rattle.diphone_c.proofs.planned.plan_checked.Tie as tie
-use Rattle.diphone_c.proofs.planned.plan_checked.Reads as reads
-use Rattle.diphone_c.proofs.planned.plan_checked.Lts as lts
-use Rattle.diphone_c.proofs.planned.write_summary.Reads as write-summary-reads
-use Rattle.refusal.proofs.number.Reads as number-reads
 
--- src/planned.rt:84:9
 number-requires : tie.Need-number-requires
 number-requires c κs = search needs
 
--- src/planned.rt:84:9
 returns : tie.Need-returns
 returns c =
     let s = c .before .before .before .before .before .before .before .before .before .before .before .before in
@@ -21,11 +15,9 @@ returns c =
     let h = (handed (a .index .now) (a .marks .now) (a .sizes .now) (a .rows .now) (a .excitation .now) (a .decoded .now) (a .state .now) (a .summary .now)) in
     plan-refused (a .voice .now) (a .sheet .now) (a .settings) h ShortBuffer _ (state-short (a .voice .now) (a .sheet .now) (a .settings) h (c .before .if1 .taken) (s .pre .passed)) (c .number .ensures)
 
--- src/planned.rt:87:9
 number-requires-2 : tie.Need-number-requires-2
 number-requires-2 c κs = search needs
 
--- src/planned.rt:87:9
 returns-2 : tie.Need-returns-2
 returns-2 c =
     let s = c .before .before .before .before .before .before .before .before .before .before .before .before .before in
@@ -33,55 +25,42 @@ returns-2 c =
     let h = (handed (a .index .now) (a .marks .now) (a .sizes .now) (a .rows .now) (a .excitation .now) (a .decoded .now) (a .state .now) (a .summary .now)) in
     plan-refused (a .voice .now) (a .sheet .now) (a .settings) h ShortBuffer _ (summary-short (a .voice .now) (a .sheet .now) (a .settings) h (c .before .before .if1 .left) (c .before .if2 .taken) (s .pre .passed)) (c .number2 .ensures)
 
--- src/planned.rt:89:9
 plan-checked-requires : tie.Need-plan-checked-requires
 plan-checked-requires c κs = search needs
 
--- src/planned.rt:104:25
 enum-known-answer : tie.Need-enum-known-answer
 enum-known-answer c = search needs
 
--- src/planned.rt:104:35
 number-requires-3 : tie.Need-number-requires-3
 number-requires-3 c κs = search needs
 
--- src/planned.rt:105:24
 enum-known-answer-2 : tie.Need-enum-known-answer-2
 enum-known-answer-2 c = search needs
 
--- src/planned.rt:106:13
 store-requires : tie.Need-store-requires
 store-requires c κs = search needs
 
--- src/planned.rt:107:13
 write-summary-requires : tie.Need-write-summary-requires
 write-summary-requires c κs = search needs
 
--- src/planned.rt:55:1
 same-length : tie.Need-same-length
 same-length c = search needs
 
--- src/planned.rt:55:1
 same-length-2 : tie.Need-same-length-2
 same-length-2 c = search needs
 
--- src/planned.rt:55:1
 same-length-3 : tie.Need-same-length-3
 same-length-3 c = search needs
 
--- src/planned.rt:55:1
 same-length-4 : tie.Need-same-length-4
 same-length-4 c = search needs
 
--- src/planned.rt:55:1
 same-length-5 : tie.Need-same-length-5
 same-length-5 c = search needs
 
--- src/planned.rt:55:1
 same-length-6 : tie.Need-same-length-6
 same-length-6 c = search needs
 
--- src/planned.rt:55:1
 returns-3 : tie.Need-returns-3
 returns-3 c =
     let s = c .before .before .before .before .before .before .before .before .before .before .before .before .before .before .before .before .before .before .before .before .before .before .before .before .before .before .before .before .before .before .before .before .before .before .before .before in
@@ -90,39 +69,30 @@ returns-3 c =
     let p = c .before .before .before .before .before .before .before .before .before .before .before .before .before .before .before .before .before .plan-checked in
     call-refused (a .voice .now) (a .sheet .now) (a .settings) h (c .before .before .before .before .before .before .before .before .before .before .before .before .before .before .before .before .before .before .before .before .before .before .before .before .before .if1 .left) (c .before .before .before .before .before .before .before .before .before .before .before .before .before .before .before .before .before .before .before .before .before .before .before .before .if2 .left) _ _ _ _ (p .ensures .0) (p .ensures .1) (c .before .before .answer .given .1) (c .number3 .ensures)
 
--- src/planned.rt:55:1
 same-length-7 : tie.Need-same-length-7
 same-length-7 c = search needs
 
--- src/planned.rt:55:1
 same-length-8 : tie.Need-same-length-8
 same-length-8 c = search needs
 
--- src/planned.rt:55:1
 same-length-9 : tie.Need-same-length-9
 same-length-9 c = search needs
 
--- src/planned.rt:55:1
 same-length-10 : tie.Need-same-length-10
 same-length-10 c = search needs
 
--- src/planned.rt:55:1
 same-length-11 : tie.Need-same-length-11
 same-length-11 c = search needs
 
--- src/planned.rt:55:1
 same-length-12 : tie.Need-same-length-12
 same-length-12 c = search needs
 
--- src/planned.rt:55:1
 same-length-13 : tie.Need-same-length-13
 same-length-13 c = search needs
 
--- src/planned.rt:55:1
 same-length-14 : tie.Need-same-length-14
 same-length-14 c = search needs
 
--- src/planned.rt:55:1
 returns-4 : tie.Need-returns-4
 returns-4 c =
     let s = c .before .before .before .before .before .before .before .before .before .before .before .before .before .before .before .before .before .before .before .before .before .before .before .before .before .before .before .before .before .before .before .before .before .before .before .before .before .before .before .before .before .before .before in
