@@ -16,7 +16,7 @@ use Rattle.call.specs.declared.Answer.the-variants.{Given, Done, Refused}
 use Rattle.call.specs.Buffers.{Buffers}
 use Rattle.call.specs.Machine.{Shown}
 use Rattle.call.specs.Numbers.{settingsOf}
-use Rattle.diphone_c.specs.Plan.{Handed, handed}
+use Rattle.c_plan.specs.Plan.{Handed, handed}
 use Rattle.diphone_c.proofs.diphone_plan.Reads as plan
 use Rattle.diphone_c.proofs.diphone_pull.Reads as pull
 use Rattle.law.specs.SpokenCall.{SpokenCall, LentBytes}
