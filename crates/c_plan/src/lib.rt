@@ -14,16 +14,16 @@ pub fn need_in_c(voice: &[u8], sheet: &[u8], join: u32, fold: u32, need: &mut [u
     ensures { λ r.
         ⌜
         r ≡ answerOf
-        (plans.refusalOfNeed (now (voice .entry)) (now (sheet .entry)) (numbers.settingsOf join 0 fold)
+        (plans.refusalOfNeed (now (voice .entry)) (now (sheet .entry)) (numbers.settingsOf settings)
         (length (now (need .entry))))
         ⌝ }
     ensures { λ _.
         ⌜
         now (need .exit) ≡
-        plans.needLeft (now (voice .entry)) (now (sheet .entry)) (numbers.settingsOf join 0 fold) (now (need .entry))
+        plans.needLeft (now (voice .entry)) (now (sheet .entry)) (numbers.settingsOf settings) (now (need .entry))
         ⌝ }
 {
-    match checking::check(voice, sheet, call::settings_of(join, 0, fold)) {
+    match checking::check(voice, sheet, call::settings_of(settings)) {
         Checked::Refused(cause) => refusal::number(cause),
         Checked::Passed(fit) => planned::report_need(fit.need, need),
     }
@@ -33,9 +33,7 @@ pub fn need_in_c(voice: &[u8], sheet: &[u8], join: u32, fold: u32, need: &mut [u
 pub fn plan_in_c(
     voice: &[u8],
     sheet: &[u8],
-    join: u32,
-    filter: u32,
-    fold: u32,
+    settings: u32,
     index: &mut [u8],
     marks: &mut [u8],
     sizes: &mut [u8],
@@ -48,7 +46,7 @@ pub fn plan_in_c(
     ensures { λ r.
         ⌜
         r ≡ answerOf
-        (plans.refusalOfPlan (now (voice .entry)) (now (sheet .entry)) (numbers.settingsOf join filter fold)
+        (plans.refusalOfPlan (now (voice .entry)) (now (sheet .entry)) (numbers.settingsOf settings)
         (plans.handed (now (index .entry)) (now (marks .entry)) (now (sizes .entry)) (now (rows .entry))
         (now (excitation .entry)) (now (decoded .entry)) (now (state .entry)) (now (summary .entry))))
         ⌝ }
@@ -56,18 +54,18 @@ pub fn plan_in_c(
         ⌜
         plans.handed (now (index .exit)) (now (marks .exit)) (now (sizes .exit)) (now (rows .exit))
         (now (excitation .exit)) (now (decoded .exit)) (now (state .exit)) (now (summary .exit)) ≡
-        plans.handedAfter (now (voice .entry)) (now (sheet .entry)) (numbers.settingsOf join filter fold)
+        plans.handedAfter (now (voice .entry)) (now (sheet .entry)) (numbers.settingsOf settings)
         (plans.handed (now (index .entry)) (now (marks .entry)) (now (sizes .entry)) (now (rows .entry))
         (now (excitation .entry)) (now (decoded .entry)) (now (state .entry)) (now (summary .entry)))
         ⌝ }
 {
-    let settings = call::settings_of(join, filter, fold);
-    match checking::check(voice, sheet, settings) {
+    let chosen = call::settings_of(settings);
+    match checking::check(voice, sheet, chosen) {
         Checked::Refused(cause) => refusal::number(cause),
         Checked::Passed(fit) => planned::plan_checked(
             voice,
             sheet,
-            settings,
+            chosen,
             fit,
             index,
             marks,

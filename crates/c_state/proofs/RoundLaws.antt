@@ -20,8 +20,7 @@ use Rattle.float.proofs.Tests.{yes, no}
 use Rattle.lpc.specs.declared.ResynthType.{ResynthType}
 use Rattle.lpc.specs.declared.ResynthType.the-variants.{Fixed, Float as FloatType}
 use Rattle.lpc.specs.declared.FilterState.{FilterState}
-use Rattle.call.specs.Numbers.{filterOf}
-use Rattle.c_state.specs.State.{filterNumber, historyAt, fixedIn, floatIn, stateWith, stateOf, wordBy, wordOf, headBytes, historyBytes, bytesOfState}
+use Rattle.c_state.specs.State.{filterNumber, filterNumbered, historyAt, fixedIn, floatIn, stateWith, stateOf, wordBy, wordOf, headBytes, historyBytes, bytesOfState}
 
 -- ---- what is read from stored bytes
 
@@ -108,7 +107,7 @@ pub record Storable (s : FilterState) : Type 0 where
   pub rangeFits : T (fits binary32 (s .«coeff_range»))
   pub history : HistoryFits s (s .filter)
 
-filter-back : (t : ResynthType) → filterOf (filterNumber t) ≡ t
+filter-back : (t : ResynthType) → filterNumbered (filterNumber t) ≡ t
 filter-back Fixed = refl
 filter-back FloatType = refl
 
@@ -166,9 +165,9 @@ module _ (s : FilterState) (d : List ℕ) where
         let y = toBits binary32 (s .«coeff_range») in
         let q = s .«ring_place» in
         let r = s .«sample_place» in
-        let e : filterOf (littleEndian 4 whole 0) ≡ n = ap filterOf (read₁ (filterNumber n) (s .order) q x y (s .period) r rest low) ∙ filter-back n in
+        let e : filterNumbered (littleEndian 4 whole 0) ≡ n = ap filterNumbered (read₁ (filterNumber n) (s .order) q x y (s .period) r rest low) ∙ filter-back n in
         let h = history-back s n whole (p .history) word-stored in
-        rebuilt s (filterOf (littleEndian 4 whole 0)) whole e (read₂ (filterNumber n) (s .order) q x y (s .period) r rest low) (read₃ (filterNumber n) (s .order) q x y (s .period) r rest low)
+        rebuilt s (filterNumbered (littleEndian 4 whole 0)) whole e (read₂ (filterNumber n) (s .order) q x y (s .period) r rest low) (read₃ (filterNumber n) (s .order) q x y (s .period) r rest low)
         (ap (ofBits binary32) (read₄ (filterNumber n) (s .order) q x y (s .period) r rest low) ∙ float-back (s .«coeff_min») (p .leastFits))
         (ap (ofBits binary32) (read₅ (filterNumber n) (s .order) q x y (s .period) r rest low) ∙ float-back (s .«coeff_range») (p .rangeFits))
         (read₆ (filterNumber n) (s .order) q x y (s .period) r rest low)
@@ -193,7 +192,7 @@ pub record Loadable (b : List ℕ) : Type 0 where
   pub filterLow : littleEndian 4 b 0 ≤ 1
   pub leastKept : Kept (littleEndian 4 b 12)
   pub rangeKept : Kept (littleEndian 4 b 16)
-  pub historyKept : filterOf (littleEndian 4 b 0) ≡ FloatType → (i : ℕ) → i < 33 → Kept (historyAt b i)
+  pub historyKept : filterNumbered (littleEndian 4 b 0) ≡ FloatType → (i : ℕ) → i < 33 → Kept (historyAt b i)
 
 bits-back : (w : ℕ) → w < 2 ^ 32 → Kept w → toBits binary32 (ofBits binary32 w) ≡ w
 bits-back w h k = go (nanBits binary32 w) refl
@@ -202,7 +201,7 @@ bits-back w h k = go (nanBits binary32 w) refl
     go true e = nan-word w (yes e) ∙ sym (k (yes e))
     go false e = word-back w h (no e)
 
-number-back : (n : ℕ) → n ≤ 1 → filterNumber (filterOf n) ≡ n
+number-back : (n : ℕ) → n ≤ 1 → filterNumber (filterNumbered n) ≡ n
 number-back zero h = refl
 number-back (suc zero) h = refl
 number-back (suc (suc n)) h = absurd (omega arith)
@@ -220,7 +219,7 @@ module _ (b : List ℕ) (p : Loadable b) where
   history-stored : historyBytes (stateOf b) ≡ take 132 (drop 36 b)
   unfolding stateOf
   history-stored =
-      ap (flat (bytesOf 4)) (upto-same _ (historyAt b) 33 (word-loaded (filterOf (littleEndian 4 b 0)) (p .historyKept)))
+      ap (flat (bytesOf 4)) (upto-same _ (historyAt b) 33 (word-loaded (filterNumbered (littleEndian 4 b 0)) (p .historyKept)))
       ∙ flat-read b (p .bytes) 4 36 33 (p .long)
 
   part-at : (k at : ℕ) → at + k ≤ 168 → bytesOf k (littleEndian k b at) ≡ take k (drop at b)

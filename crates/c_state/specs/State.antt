@@ -4,15 +4,16 @@
 use mathlib.Core.Bool.{false}
 use mathlib.Core.List.{List, _++_}
 use Prim.Native.Nat.{ℕ, _+_, _*_}
+use lib.Dec.{eqb}
 use lib.IntN.{pos}
 use lib.ListN.{getD, replicate}
 use lib.Ieee.{Float, nan, fin, binary32, ofBits, toBits}
+use Rattle.base.specs.Choice.{pick}
 use Rattle.base.specs.Buffers.{flat, upto}
 use Rattle.base.specs.Bytes.{littleEndian, bytesOf}
 use Rattle.lpc.specs.declared.ResynthType.{ResynthType}
 use Rattle.lpc.specs.declared.ResynthType.the-variants.{Fixed, Float as FloatType}
 use Rattle.lpc.specs.declared.FilterState.{FilterState}
-use Rattle.call.specs.Numbers.{filterOf}
 
 -- DIPHONE_STATE_BYTES
 abbrev pub stateLength : ℕ
@@ -21,6 +22,10 @@ stateLength = 168
 abbrev pub filterNumber : ResynthType → ℕ
 filterNumber Fixed = 0
 filterNumber FloatType = 1
+
+-- the filter of a number: 0 fixed, any other float
+abbrev pub filterNumbered : ℕ → ResynthType
+filterNumbered n = pick (eqb n 0) Fixed FloatType
 
 -- what the history's place i holds, in bytes
 abbrev pub historyAt : List ℕ → ℕ → ℕ
@@ -56,7 +61,7 @@ headOf filter b = stateWith filter (replicate 33 0) (replicate 33 (fin false 0 (
 
 -- the state that bytes say
 unfoldable pub stateOf : List ℕ → FilterState
-stateOf b = let filter = filterOf (littleEndian 4 b 0) in stateWith filter (fixedIn filter b) (floatIn filter b) b
+stateOf b = let filter = filterNumbered (littleEndian 4 b 0) in stateWith filter (fixedIn filter b) (floatIn filter b) b
 
 -- the bytes of a state; a NaN has the bits 0x7FC00000
 unfoldable pub headBytes : FilterState → List ℕ

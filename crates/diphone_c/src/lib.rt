@@ -25,26 +25,20 @@ pub extern "C" fn diphone_open(voice: &[u8], index: &mut [u8], report: &mut [u8]
 
 // How long each buffer of a call must be: 0, or the number of the refusal.
 #[no_mangle]
-pub extern "C" fn diphone_need(
-    voice: &[u8],
-    sheet: &[u8],
-    join: u32,
-    fold: u32,
-    need: &mut [u8],
-) -> u32
+pub extern "C" fn diphone_need(voice: &[u8], sheet: &[u8], settings: u32, need: &mut [u8]) -> u32
     ensures { λ r.
         ⌜
         r ≡ opens.answerOf
-        (plans.refusalOfNeed (now (voice .entry)) (now (sheet .entry)) (numbers.settingsOf join 0 fold)
+        (plans.refusalOfNeed (now (voice .entry)) (now (sheet .entry)) (numbers.settingsOf settings)
         (length (now (need .entry))))
         ⌝ }
     ensures { λ _.
         ⌜
         now (need .exit) ≡
-        plans.needLeft (now (voice .entry)) (now (sheet .entry)) (numbers.settingsOf join 0 fold) (now (need .entry))
+        plans.needLeft (now (voice .entry)) (now (sheet .entry)) (numbers.settingsOf settings) (now (need .entry))
         ⌝ }
 {
-    c_plan::need_in_c(voice, sheet, join, fold, need)
+    c_plan::need_in_c(voice, sheet, settings, need)
 }
 
 // Makes a call: 0, or the number of the refusal.
@@ -52,9 +46,7 @@ pub extern "C" fn diphone_need(
 pub extern "C" fn diphone_plan(
     voice: &[u8],
     sheet: &[u8],
-    join: u32,
-    filter: u32,
-    fold: u32,
+    settings: u32,
     index: &mut [u8],
     marks: &mut [u8],
     sizes: &mut [u8],
@@ -67,7 +59,7 @@ pub extern "C" fn diphone_plan(
     ensures { λ r.
         ⌜
         r ≡ opens.answerOf
-        (plans.refusalOfPlan (now (voice .entry)) (now (sheet .entry)) (numbers.settingsOf join filter fold)
+        (plans.refusalOfPlan (now (voice .entry)) (now (sheet .entry)) (numbers.settingsOf settings)
         (plans.handed (now (index .entry)) (now (marks .entry)) (now (sizes .entry)) (now (rows .entry))
         (now (excitation .entry)) (now (decoded .entry)) (now (state .entry)) (now (summary .entry))))
         ⌝ }
@@ -75,7 +67,7 @@ pub extern "C" fn diphone_plan(
         ⌜
         plans.handed (now (index .exit)) (now (marks .exit)) (now (sizes .exit)) (now (rows .exit))
         (now (excitation .exit)) (now (decoded .exit)) (now (state .exit)) (now (summary .exit)) ≡
-        plans.handedAfter (now (voice .entry)) (now (sheet .entry)) (numbers.settingsOf join filter fold)
+        plans.handedAfter (now (voice .entry)) (now (sheet .entry)) (numbers.settingsOf settings)
         (plans.handed (now (index .entry)) (now (marks .entry)) (now (sizes .entry)) (now (rows .entry))
         (now (excitation .entry)) (now (decoded .entry)) (now (state .entry)) (now (summary .entry)))
         ⌝ }
@@ -83,9 +75,7 @@ pub extern "C" fn diphone_plan(
     c_plan::plan_in_c(
         voice,
         sheet,
-        join,
-        filter,
-        fold,
+        settings,
         index,
         marks,
         sizes,

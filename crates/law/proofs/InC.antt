@@ -84,7 +84,7 @@ pulls-in-c b _ s _ _ held z e (more {ds} {os} κs state sizes rows excitation sa
 -- A call of `diphone_plan`, known by its contract, is the definition's.
 plan-in-c : (file sheet : List ℕ) (o : Settings) (h : Handed) (r : ℕ) (after : Handed) → PlanMadeInC file sheet o h r after
     → PlanEnds file sheet o h r after × ((length (h .buffers .sizes) < 2 ^ 64) × (length (h .buffers .excitation) < 2 ^ 64))
-plan-in-c _ _ _ _ _ _ (made κs voice sheet join filter fold index marks sizes rows excitation decoded state summary r after z e post) = ((post .0, post .1), (z, e))
+plan-in-c _ _ _ _ _ _ (made κs voice sheet settings index marks sizes rows excitation decoded state summary r after z e post) = ((post .0, post .1), (z, e))
 
 pub spoken-in-c : (file sheet : List ℕ) (o : Settings) (h after : Handed) → PlanMadeInC file sheet o h 0 after → callRefusal file sheet o (h .buffers) ≡ nothing
 unfolding refusalOfPlan

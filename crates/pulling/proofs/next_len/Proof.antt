@@ -1,8 +1,8 @@
 use native.Mathlib.Omega.{arith}
-use Rattle.diphone.proofs.PullingLaws.{next-count}
+use Rattle.pulling.proofs.PullingLaws.{next-count}
 use borrow.Author.Needs.{needs}
-use Rattle.diphone.proofs.pulling.next_len.Statement.{statement}
-use Rattle.diphone.proofs.pulling.next_len.Tie as tie
+use Rattle.pulling.proofs.next_len.Statement.{statement}
+use Rattle.pulling.proofs.next_len.Tie as tie
 
 u32-at-requires : tie.Need-u32-at-requires
 u32-at-requires c κs = search needs

@@ -18,7 +18,7 @@ use Rattle.voice.specs.Header.{inScale}
 use Rattle.lpc.specs.declared.FilterState.{FilterState}
 use Rattle.lpc.specs.Ready.{partOf}
 use Rattle.call.specs.Pull.{lentOf, allGiven, possible, nextPart}
-use Rattle.diphone.specs.Pulling.{Takes, nextOf}
+use Rattle.pulling.specs.Pulling.{Takes, nextOf}
 
 or-left : (a b : Bool) → a ≡ false → (a || b) ≡ true → b ≡ true
 or-left true b e f = let z : true ≡ false = e in cc

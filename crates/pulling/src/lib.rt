@@ -7,7 +7,7 @@ ghost use Rattle.base.specs.Buffers.{over, flat};
 ghost use Rattle.base.specs.Bytes.{bytesOf, elements};
 ghost use Rattle.lpc.specs.State.{advanced, spoken};
 ghost use Rattle.call.specs.Pull.{lentOf, possible};
-ghost use Rattle.diphone.specs.Pulling.{Takes, nextOf};
+ghost use Rattle.pulling.specs.Pulling.{Takes, nextOf};
 use lpc::FilterState;
 
 // Whether `count` rows of `order` elements each are there.
@@ -21,7 +21,7 @@ fn has_rows(count: usize, order: usize, elements: usize) -> bool
 }
 
 // Whether a state is possible, and the next row is there where there is a next period.
-pub(super) fn is_possible(state: FilterState, sizes: &[u8], rows: &[u8], excitation: &[u8]) -> bool
+pub fn is_possible(state: FilterState, sizes: &[u8], rows: &[u8], excitation: &[u8]) -> bool
     ensures { λ r. ⌜ r ≡ possible state (lentOf (now (sizes .entry)) (now (rows .entry)) (now (excitation .entry))) ⌝ }
 {
     if state.order > 32 {
@@ -49,9 +49,14 @@ pub(super) fn is_possible(state: FilterState, sizes: &[u8], rows: &[u8], excitat
 }
 
 // How many samples the next period has: its size, cut to what is left of the excitation.
-pub(super) fn next_len(state: FilterState, sizes: &[u8], excitation: &[u8]) -> usize
+pub fn next_len(state: FilterState, sizes: &[u8], excitation: &[u8]) -> usize
     requires { ⌜ (4 * state .period + 4 ≤ length (now sizes)) × (state .«sample_place» ≤ length (now excitation)) ⌝ }
-    ensures { λ r. ⌜ (r ≡ length (take (getD (elements 4 (now (sizes .entry))) (state .period) 0) (drop (state .«sample_place») (now (excitation .entry))))) × (state .«sample_place» + r ≤ length (now (excitation .entry))) ⌝ }
+    ensures { λ r.
+        ⌜
+        (r ≡ length (take (getD (elements 4 (now (sizes .entry))) (state .period) 0)
+        (drop (state .«sample_place») (now (excitation .entry))))) ×
+        (state .«sample_place» + r ≤ length (now (excitation .entry)))
+        ⌝ }
 {
     let size = base::bytes::u32_at(sizes, state.period) as usize;
     let left = excitation.len() - state.sample_place;
@@ -59,7 +64,7 @@ pub(super) fn next_len(state: FilterState, sizes: &[u8], excitation: &[u8]) -> u
 }
 
 // The next period, of n samples: they go to the front of `samples`. Returns the state after it.
-pub(super) fn resynthesise_next(
+pub fn resynthesise_next(
     state: FilterState,
     n: usize,
     rows: &[u8],
@@ -68,7 +73,12 @@ pub(super) fn resynthesise_next(
 ) -> FilterState
     requires { ⌜ Takes state n (length (now rows)) (length (now excitation)) (length (now samples)) ⌝ }
     ensures { λ r. ⌜ r ≡ advanced state (nextOf state n (now (rows .entry)) (now (excitation .entry))) ⌝ }
-    ensures { λ _. ⌜ now (samples .exit) ≡ over (flat (bytesOf 2) (spoken state (nextOf state n (now (rows .entry)) (now (excitation .entry))))) (now (samples .entry)) ⌝ }
+    ensures { λ _.
+        ⌜
+        now (samples .exit) ≡
+        over (flat (bytesOf 2) (spoken state (nextOf state n (now (rows .entry)) (now (excitation .entry)))))
+        (now (samples .entry))
+        ⌝ }
 {
     let order = state.order;
     let row_start = 2 * (state.period * order);

@@ -3,10 +3,10 @@ use Rattle.base.specs.Buffers.{over, flat}
 use Rattle.base.specs.Bytes.{bytesOf}
 use Rattle.lpc.specs.Filter.{Part}
 use Rattle.lpc.specs.State.{advanced, spoken}
-use Rattle.diphone.proofs.PullingLaws.{next-lent}
+use Rattle.pulling.proofs.PullingLaws.{next-lent}
 use borrow.Author.Needs.{needs}
-use Rattle.diphone.proofs.pulling.resynthesise_next.Statement.{statement}
-use Rattle.diphone.proofs.pulling.resynthesise_next.Tie as tie
+use Rattle.pulling.proofs.resynthesise_next.Statement.{statement}
+use Rattle.pulling.proofs.resynthesise_next.Tie as tie
 
 mul-row-start : tie.Need-mul-row-start
 mul-row-start c = search needs

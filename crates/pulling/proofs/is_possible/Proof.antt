@@ -6,10 +6,10 @@ use lib.ListN.{length, drop}
 use Rattle.base.specs.Lists.{every}
 use Rattle.base.proofs.ListLaws.{every-pass, every-fail}
 use Rattle.call.specs.Pull.{lentOf, possible}
-use Rattle.diphone.proofs.PullingLaws.{tests, possible-are, given-last, row-last}
+use Rattle.pulling.proofs.PullingLaws.{tests, possible-are, given-last, row-last}
 use borrow.Author.Needs.{needs}
-use Rattle.diphone.proofs.pulling.is_possible.Statement.{statement}
-use Rattle.diphone.proofs.pulling.is_possible.Tie as tie
+use Rattle.pulling.proofs.is_possible.Statement.{statement}
+use Rattle.pulling.proofs.is_possible.Tie as tie
 
 abbrev start : tie.After-struct-known → tie.Start
 start c = c .before .before .before .before

@@ -2,10 +2,10 @@ use mathlib.Core.Path.{sym}
 use native.Mathlib.Nat.{mul-zero}
 use native.Mathlib.Omega.{arith}
 use borrow.Author.Tests.{le-leb}
-use Rattle.diphone.proofs.PullingLaws.{div-test}
+use Rattle.pulling.proofs.PullingLaws.{div-test}
 use borrow.Author.Needs.{needs}
-use Rattle.diphone.proofs.pulling.has_rows.Statement.{statement}
-use Rattle.diphone.proofs.pulling.has_rows.Tie as tie
+use Rattle.pulling.proofs.has_rows.Statement.{statement}
+use Rattle.pulling.proofs.has_rows.Tie as tie
 
 returns : tie.Need-returns
 returns c = let a = c .before .args in rw (c .if1 .taken, mul-zero) (sym (le-leb 0 (a .elements) (omega arith)))
