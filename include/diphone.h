@@ -63,13 +63,17 @@ uint32_t diphone_open(const uint8_t *DIPHONE_RESTRICT voice, size_t voice_len,
                       uint8_t *DIPHONE_RESTRICT index, size_t index_len,
                       uint8_t *DIPHONE_RESTRICT record, size_t record_len);
 
-/* Settings of a call. Every number is a setting. */
+/* Settings of a call: one word, of a join, a filter and, perhaps, DIPHONE_FOLD, joined by |. Every
+ * number is a setting: of bits 0 and 1 (the join) 3 is the modified join too; of bits 2 and 3 (the
+ * filter) all but DIPHONE_FILTER_FIXED are the float filter; bits 5 and above mean nothing yet and
+ * should be 0. */
 enum {
     DIPHONE_JOIN_NONE = 0,     /* no periods */
     DIPHONE_JOIN_SIMPLE = 1,   /* each period as long as it is stored */
-    DIPHONE_JOIN_MODIFIED = 2, /* periods by the sheet's ends and targets; also any number above */
-    DIPHONE_FILTER_FIXED = 0,
-    DIPHONE_FILTER_FLOAT = 1   /* also any number above */
+    DIPHONE_JOIN_MODIFIED = 2, /* periods by the sheet's ends and targets */
+    DIPHONE_FILTER_FIXED = 4,
+    DIPHONE_FILTER_FLOAT = 8,
+    DIPHONE_FOLD = 16          /* `ah` counts as `aa` */
 };
 
 /* What the buffers of a call need: six numbers of 8 bytes each, for entries of the index, marks,
@@ -79,15 +83,15 @@ enum {
 /* Tells how long the buffers of a call must be. It makes the call's checks and writes nothing but
  * need.
  *
- * Takes:   voice and sheet, the bytes of a voice file and of a call sheet; join, as above; fold, 0 or
- *          not: with fold on `ah` counts as `aa`; need, DIPHONE_NEED_BYTES or more.
+ * Takes:   voice and sheet, the bytes of a voice file and of a call sheet; settings, as above (the
+ *          filter plays no part); need, DIPHONE_NEED_BYTES or more.
  * Answers: 0; or 1 to 12 as diphone_plan does; or 13 if need is too short.
  * Leaves:  on 0, in need the six numbers: an index of 8 bytes an entry, marks of 4, sizes of 4 bytes
  *          a period, rows of 2 a row value, excitation and decoded of so many bytes are long enough,
  *          and shorter ones are not; bytes past these as they were. */
 uint32_t diphone_need(const uint8_t *DIPHONE_RESTRICT voice, size_t voice_len,
-                      const uint8_t *DIPHONE_RESTRICT sheet, size_t sheet_len, uint32_t join,
-                      uint32_t fold, uint8_t *DIPHONE_RESTRICT need, size_t need_len);
+                      const uint8_t *DIPHONE_RESTRICT sheet, size_t sheet_len,
+                      uint32_t settings, uint8_t *DIPHONE_RESTRICT need, size_t need_len);
 
 /* What a call gave: six numbers of 8 bytes each, for samples per second, periods, samples, marks,
  * the order (row values a period) and entries of the index. */
@@ -102,9 +106,9 @@ uint32_t diphone_need(const uint8_t *DIPHONE_RESTRICT voice, size_t voice_len,
 
 /* Makes a call: opens the voice, reads the sheet, makes the pitch marks and fills the buffers.
  *
- * Takes:   voice, sheet, join and fold as diphone_need does; filter, as above; index, marks, sizes,
- *          rows, excitation and decoded, each as long as diphone_need tells or longer; state,
- *          DIPHONE_STATE_BYTES or more; summary, DIPHONE_SUMMARY_BYTES or more.
+ * Takes:   voice, sheet and settings as diphone_need does; index, marks, sizes, rows, excitation and
+ *          decoded, each as long as diphone_need tells or longer; state, DIPHONE_STATE_BYTES or more;
+ *          summary, DIPHONE_SUMMARY_BYTES or more.
  * Answers: 0; or 1 to 7 for the voice file, then 8 or 9 for the sheet, whichever is met first in it,
  *          then 11 for a target end, then 10, 12 or 11 for the marks in the order made, then 13 if a
  *          buffer is too short. The simple join gives no 10, and 11 for its marks alone; join none
@@ -112,12 +116,12 @@ uint32_t diphone_need(const uint8_t *DIPHONE_RESTRICT voice, size_t voice_len,
  * Leaves:  on 0, in index the sorted index as diphone_open has it, in marks every pitch mark (4 bytes
  *          each), in sizes the size of each period in samples (4 bytes), in rows its row of order
  *          values as stored (2 bytes each), in excitation a mu-law byte for each sample, in decoded
- *          the decoded periods, each over the one before, in state the fresh filter state, in summary the call's summary;
- *          bytes past these as they were. */
+ *          the decoded periods, each over the one before, in state the fresh filter state, in summary
+ *          the call's summary; bytes past these as they were. */
 uint32_t diphone_plan(const uint8_t *DIPHONE_RESTRICT voice, size_t voice_len,
-                      const uint8_t *DIPHONE_RESTRICT sheet, size_t sheet_len, uint32_t join,
-                      uint32_t filter, uint32_t fold, uint8_t *DIPHONE_RESTRICT index,
-                      size_t index_len, uint8_t *DIPHONE_RESTRICT marks, size_t marks_len,
+                      const uint8_t *DIPHONE_RESTRICT sheet, size_t sheet_len,
+                      uint32_t settings, uint8_t *DIPHONE_RESTRICT index, size_t index_len,
+                      uint8_t *DIPHONE_RESTRICT marks, size_t marks_len,
                       uint8_t *DIPHONE_RESTRICT sizes, size_t sizes_len,
                       uint8_t *DIPHONE_RESTRICT rows, size_t rows_len,
                       uint8_t *DIPHONE_RESTRICT excitation, size_t excitation_len,

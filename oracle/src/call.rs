@@ -48,6 +48,21 @@ impl Settings {
         all
     }
 
+    /// The word of the settings, as include/diphone.h has it: join, 4 for the
+    /// fixed filter or 8 for the float filter, 16 for fold.
+    pub fn word(self) -> u32 {
+        let join = match self.join {
+            Join::None => 0,
+            Join::Simple => 1,
+            Join::Modified => 2,
+        };
+        let filter = match self.filter {
+            Filter::Fixed => 4,
+            Filter::Float => 8,
+        };
+        join | filter | 16 * u32::from(self.fold)
+    }
+
     pub fn new(join: Join) -> Settings {
         Settings {
             join,

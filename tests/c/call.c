@@ -6,7 +6,13 @@
 #include <stdlib.h>
 
 enum { INDEX, MARKS, SIZES, ROWS, EXCITATION, DECODED, STATE, SUMMARY, BUFFERS };
-enum { NONE, SIMPLE, MODIFIED };
+enum {
+    NONE = DIPHONE_JOIN_NONE,
+    SIMPLE = DIPHONE_JOIN_SIMPLE,
+    MODIFIED = DIPHONE_JOIN_MODIFIED,
+    FIXED = DIPHONE_FILTER_FIXED,
+    FLOAT = DIPHONE_FILTER_FLOAT
+};
 
 /* ---- sheets: the segments pau and aa */
 
@@ -72,19 +78,19 @@ static uint8_t *at(int buffer)
     return lengths[buffer] > 0 ? lent[buffer] : NULL;
 }
 
-static uint32_t plan(uint32_t join, uint32_t filter, uint32_t fold)
+static uint32_t plan(uint32_t settings)
 {
     reset();
-    return diphone_plan(file, length, sheet, sheet_length, join, filter, fold, at(INDEX), lengths[INDEX],
+    return diphone_plan(file, length, sheet, sheet_length, settings, at(INDEX), lengths[INDEX],
                         at(MARKS), lengths[MARKS], at(SIZES), lengths[SIZES], at(ROWS), lengths[ROWS],
                         at(EXCITATION), lengths[EXCITATION], at(DECODED), lengths[DECODED], at(STATE),
                         lengths[STATE], at(SUMMARY), lengths[SUMMARY]);
 }
 
-static uint32_t needs(uint32_t join, size_t need_length)
+static uint32_t needs(uint32_t settings, size_t need_length)
 {
     reset();
-    return diphone_need(file, length, sheet, sheet_length, join, 0, need, need_length);
+    return diphone_need(file, length, sheet, sheet_length, settings, need, need_length);
 }
 
 /* The lengths that the call needs, in bytes. */
@@ -260,7 +266,7 @@ static void refused(uint32_t number, uint32_t join, const char *what)
     for (size_t size = 0; size <= 256; size += 128) {
         for (int i = 0; i < BUFFERS; i += 1)
             lengths[i] = size;
-        expect(plan(join, 0, 0) == number, what);
+        expect(plan(join | FIXED) == number, what);
         for (int i = 0; i < BUFFERS; i += 1)
             past(i, 0);
     }
@@ -276,7 +282,7 @@ static void short_buffers(void)
         if (lengths[i] == 0)
             continue;
         lengths[i] -= 1;
-        expect(plan(SIMPLE, 0, 0) == DIPHONE_SHORT_BUFFER, "a buffer one byte short");
+        expect(plan(SIMPLE | FIXED) == DIPHONE_SHORT_BUFFER, "a buffer one byte short");
         for (int k = 0; k < BUFFERS; k += 1)
             past(k, 0);
         lengths[i] += 1;
@@ -340,7 +346,7 @@ static void unfit_calls(void)
     expect(needs(MODIFIED, sizeof need) == 0 && u64_at(need, 8) == 65536, "65,536 marks");
     for (int i = 0; i < BUFFERS; i += 1)
         lengths[i] = 256;
-    expect(plan(MODIFIED, 0, 0) == DIPHONE_SHORT_BUFFER, "65,536 marks in 256 bytes");
+    expect(plan(MODIFIED | FIXED) == DIPHONE_SHORT_BUFFER, "65,536 marks in 256 bytes");
 }
 
 /* ---- other calls */
@@ -349,7 +355,7 @@ static void no_join(void)
 {
     exact(NONE);
     expect(six(need, 1, 0, 0, 0, 0, 0), "join none needs the index alone");
-    expect(plan(NONE, 1, 1) == 0, "join none");
+    expect(plan(NONE | FLOAT | DIPHONE_FOLD) == 0, "join none");
     expect(six(lent[SUMMARY], 8000, 0, 0, 0, 0, 1), "join none: the summary");
     expect(u32_at(STATE, 0) == 1, "the float filter");
     expect(diphone_pull(lent[STATE], DIPHONE_STATE_BYTES, NULL, 0, NULL, 0, NULL, 0, NULL, 0) == -1,
@@ -362,9 +368,10 @@ static void four_marks(void)
 {
     two_targets(0x42800000, 0x3D800000, 0x42800000);
     exact(UINT32_MAX);
-    expect(plan(UINT32_MAX, 0, 0) == 0, "2 and above are the modified join");
+    expect(plan(UINT32_MAX) == 0, "3 is the modified join too, bits from 5 on mean nothing");
+    expect(six(lent[SUMMARY], 8000, 0, 0, 4, 0, 1) && u32_at(STATE, 0) == 1, "every bit: modified, float");
     exact(MODIFIED);
-    expect(plan(MODIFIED, 0, 0) == 0, "four marks");
+    expect(plan(MODIFIED | FIXED) == 0, "four marks");
     for (uint32_t i = 0; i < 4; i += 1)
         expect(u32_at(MARKS, 4 * i) == 125 * (i + 1), "marks 125, 250, 375, 500");
     expect(six(lent[SUMMARY], 8000, 0, 0, 4, 0, 1), "four marks past the target ends");
@@ -388,7 +395,8 @@ static void from_the_heap(void)
         heap[i] = malloc(sizes[i]);
     memcpy(heap[BUFFERS], file, length);
     memcpy(heap[BUFFERS + 1], sheet, sheet_length);
-    expect(diphone_plan(heap[BUFFERS], sizes[BUFFERS], heap[BUFFERS + 1], sizes[BUFFERS + 1], SIMPLE, 1, 1,
+    expect(diphone_plan(heap[BUFFERS], sizes[BUFFERS], heap[BUFFERS + 1], sizes[BUFFERS + 1],
+                        SIMPLE | FLOAT | DIPHONE_FOLD,
                         heap[INDEX], sizes[INDEX], heap[MARKS], sizes[MARKS], heap[SIZES], sizes[SIZES],
                         heap[ROWS], sizes[ROWS], heap[EXCITATION], sizes[EXCITATION], heap[DECODED],
                         sizes[DECODED], heap[STATE], sizes[STATE], heap[SUMMARY], sizes[SUMMARY]) == 0,
@@ -410,7 +418,7 @@ static void g721(void)
     example(1, 0, 1);
     exact(SIMPLE);
     expect(six(need, 1, 2, 2, 0, 5, 6), "G.721 needs a decode buffer");
-    expect(plan(SIMPLE, 0, 0) == 0, "a G.721 voice");
+    expect(plan(SIMPLE | FIXED) == 0, "a G.721 voice");
     expect(!all_guard(lent[DECODED], 0, 6), "the decode buffer is used");
     past(DECODED, 6);
 }
@@ -422,15 +430,17 @@ int main(void)
         example_sheet();
         exact(SIMPLE);
         expect(six(need, 1, 2, 2, 2 * order, 5, 0), "what the example needs");
-        expect(plan(SIMPLE, 0, 0) == 0, "the example is planned");
+        expect(plan(SIMPLE | FIXED) == 0, "the example is planned");
         expect(u32_at(STATE, 0) == 0, "the fixed filter");
         fills(entries, order);
         impossible_states(order);
         speak();
         for (int i = 0; i < BUFFERS; i += 1)
             lengths[i] += 3;
-        expect(plan(SIMPLE, 2, 7) == 0, "longer buffers, other settings");
-        expect(u32_at(STATE, 0) == 1, "2 and above are the float filter too");
+        for (uint32_t filter = 0; filter <= 12; filter += 4) {
+            expect(plan(SIMPLE | filter | DIPHONE_FOLD) == 0, "longer buffers, other settings");
+            expect(u32_at(STATE, 0) == (filter != FIXED), "0 and 3 are the float filter too");
+        }
         fills(entries, order);
         short_buffers();
     }

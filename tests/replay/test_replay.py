@@ -48,10 +48,10 @@ def part(data, place, length):
 
 
 def settings_of(byte):
-    join, how, fold = byte & 3, byte >> 2 & 1, byte >> 3
-    if join > 2 or fold > 1:
+    join, how, fold = byte & 3, byte >> 2 & 3, byte >> 4
+    if join > 2 or how not in (1, 2) or fold > 1:
         raise ValueError(f"no settings {byte}")
-    return JOINS[join], FILTERS[how], fold == 1
+    return JOINS[join], FILTERS[how - 1], fold == 1
 
 
 def stored(data):

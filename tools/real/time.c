@@ -46,7 +46,7 @@ static double time_flite(const struct sentence *sentence, const struct setting *
 static uint32_t plan_again(struct speech *s, const struct bytes *voice, const struct bytes *sheet,
                            const struct setting *setting) {
     uint8_t summary[DIPHONE_SUMMARY_BYTES];
-    return diphone_plan(voice->at, voice->length, sheet->at, sheet->length, setting->join, setting->filter, 0,
+    return diphone_plan(voice->at, voice->length, sheet->at, sheet->length, setting->join | setting->filter,
                         s->index.at, s->index.length, s->marks.at, s->marks.length, s->sizes.at, s->sizes.length,
                         s->rows.at, s->rows.length, s->excitation.at, s->excitation.length, s->decoded.at,
                         s->decoded.length, s->state, sizeof s->state, summary, sizeof summary);
@@ -56,7 +56,7 @@ static void time_ours(double part[PARTS], struct speech *speech, const struct by
                       const struct setting *setting) {
     uint8_t need[DIPHONE_NEED_BYTES];
     double start = now();
-    uint32_t refusal = diphone_need(voice->at, voice->length, sheet->at, sheet->length, setting->join, 0, need,
+    uint32_t refusal = diphone_need(voice->at, voice->length, sheet->at, sheet->length, setting->join, need,
                                     sizeof need);
     double needed = now();
     refusal |= plan_again(speech, voice, sheet, setting);

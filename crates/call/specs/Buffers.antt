@@ -30,7 +30,7 @@ use Rattle.call.specs.declared.Summary.{Summary}
 use Rattle.call.specs.declared.Called.{Called}
 use Rattle.call.specs.declared.Called.the-variants.{Spoken, Refused}
 use Rattle.call.specs.declared.Planned.{Planned}
-use Rattle.call.specs.Call.{planOf, periodsTaken}
+use Rattle.call.specs.Call.{filterIn, planOf, periodsTaken}
 
 pub record Buffers : Type 0 where
   pub index : List ℕ
@@ -132,7 +132,7 @@ summaryOf v s o =
 
 -- a call's fresh state, and the state that comes with a refusal
 unfoldable pub freshOf : Voice → Settings → FilterState
-freshOf v o = freshState (o .filter) (v .header .order) (v .header .«coeff_min») (v .header .«coeff_range»)
+freshOf v o = freshState (filterIn o) (v .header .order) (v .header .«coeff_min») (v .header .«coeff_range»)
 
 unfoldable pub zeroState : FilterState
 zeroState = freshState Fixed 0 (fin false 0 (pos 0)) (fin false 0 (pos 0))

@@ -17,6 +17,7 @@ use Rattle.units.specs.Units.{unitsOf, endRefusal}
 use Rattle.marks.specs.PitchMarks.{pitchMarks, mostMarks}
 use Rattle.marks.specs.NaturalMarks.{naturalMarks, naturalUnits, markRefusal}
 use Rattle.excitation.specs.Taken.{Period, taken, sizesOf, rowsOf, excitationOf}
+use Rattle.lpc.specs.declared.ResynthType.{ResynthType}
 use Rattle.lpc.specs.Filter.{Part, cut}
 use Rattle.lpc.specs.State.{periodsBy}
 use Rattle.call.specs.declared.JoinType.{JoinType}
@@ -63,9 +64,13 @@ periodsTaken v s o = taken v (planOf v s o .units) (planOf v s o .marks)
 abbrev pub partsOf : Voice → List Period → List Part
 partsOf v ps = cut (v .header .order) (sizesOf ps) (rowsOf ps) (excitationOf ps)
 
+-- the filter that a call ends up with
+abbrev pub filterIn : Settings → ResynthType
+filterIn o = o .filter
+
 -- the periods of samples of a call, each sample a word of 16 bits
 unfoldable pub periodsOf : Voice → Sheet → Settings → List (List ℕ)
-periodsOf v s o = periodsBy (o .filter) (v .header .«coeff_min») (v .header .«coeff_range») (partsOf v (periodsTaken v s o))
+periodsOf v s o = periodsBy (filterIn o) (v .header .«coeff_min») (v .header .«coeff_range») (partsOf v (periodsTaken v s o))
 
 -- all samples of a call
 unfoldable pub samplesOfCall : Voice → Sheet → Settings → List ℕ

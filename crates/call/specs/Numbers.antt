@@ -1,6 +1,6 @@
--- Settings as numbers.
-use mathlib.Core.Bool.{not}
-use Prim.Native.Nat.{ℕ}
+-- Settings as one word, the flags of the interface for C. 'Any other setting cannot be expressed': every number is a setting.
+use mathlib.Core.Bool.{Bool}
+use Prim.Native.Nat.{ℕ, _/_, _%_}
 use lib.Dec.{eqb}
 use Rattle.base.specs.Choice.{pick}
 use Rattle.lpc.specs.declared.ResynthType.{ResynthType}
@@ -9,14 +9,17 @@ use Rattle.call.specs.declared.JoinType.{JoinType}
 use Rattle.call.specs.declared.JoinType.the-variants.{None, Simple, ModifiedLpc}
 use Rattle.call.specs.declared.Settings.{Settings}
 
--- 'Any other setting cannot be expressed': join 0 none, 1 simple, 2 and above modified
+-- bits 0 and 1: join 0 none, 1 simple, 2 and 3 modified
 unfoldable pub joinOf : ℕ → JoinType
 joinOf n = pick (eqb n 0) None (pick (eqb n 1) Simple ModifiedLpc)
 
--- filter 0 fixed, 1 and above float
-abbrev pub filterOf : ℕ → ResynthType
-filterOf n = pick (eqb n 0) Fixed Float
+-- bits 2 and 3: filter 1 fixed; 0, 2 and 3 float
+unfoldable pub filterOf : ℕ → ResynthType
+filterOf n = pick (eqb n 1) Fixed Float
 
--- fold 0 off, else on
-unfoldable pub settingsOf : ℕ → ℕ → ℕ → Settings
-settingsOf join filter fold = record { join = joinOf join; filter = filterOf filter; fold = not (eqb fold 0) }
+-- bit 4: fold; the bits above it mean nothing
+abbrev pub foldOf : ℕ → Bool
+foldOf n = eqb n 1
+
+unfoldable pub settingsOf : ℕ → Settings
+settingsOf word = record { join = joinOf (word % 4); filter = filterOf (word / 4 % 4); fold = foldOf (word / 16 % 2) }

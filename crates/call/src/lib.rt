@@ -1,6 +1,7 @@
 // A call: from voice and sheet to pitch periods of samples.
 ghost use mathlib.Core.Path.{_≡_};
 ghost use Rattle.call.specs.Numbers as numbers;
+ghost use Rattle.call.specs.Call.{filterIn};
 use lpc::FilterState;
 use lpc::ResynthType;
 use refusal::Refusal;
@@ -31,25 +32,32 @@ fn join_of(n: u32) -> JoinType
     JoinType::ModifiedLpc
 }
 
-// The filter of a number: 0 fixed, any other float.
+// The filter of a number: 1 fixed, any other float.
 fn filter_of(n: u32) -> ResynthType
     ensures { λ r. ⌜ r ≡ numbers.filterOf n ⌝ }
 {
-    if n == 0 {
+    if n == 1 {
         return ResynthType::Fixed;
     }
     ResynthType::Float
 }
 
-// The settings of three numbers; fold is off for 0.
-pub fn settings_of(join: u32, filter: u32, fold: u32) -> Settings
-    ensures { λ r. ⌜ r ≡ numbers.settingsOf join filter fold ⌝ }
+// The settings of a word: bits 0 and 1 the join, bits 2 and 3 the filter, bit 4 fold.
+pub fn settings_of(word: u32) -> Settings
+    ensures { λ r. ⌜ r ≡ numbers.settingsOf word ⌝ }
 {
     Settings {
-        join: join_of(join),
-        filter: filter_of(filter),
-        fold: fold != 0,
+        join: join_of(word % 4),
+        filter: filter_of(word / 4 % 4),
+        fold: word / 16 % 2 == 1,
     }
+}
+
+// The filter that a call with such settings ends up with.
+pub fn filter_in(settings: Settings) -> ResynthType
+    ensures { λ r. ⌜ r ≡ filterIn settings ⌝ }
+{
+    settings.filter
 }
 
 // How many elements each buffer of a call must have.

@@ -1,6 +1,4 @@
 // A call, and its pulls: one pitch period of samples at a time.
-mod pulling;
-
 ghost use mathlib.Core.Path.{_≡_};
 ghost use Rattle.call.specs.Buffers as calls;
 ghost use Rattle.call.specs.Pull.{lentOf, pullOf};

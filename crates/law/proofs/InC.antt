@@ -24,15 +24,16 @@ use Rattle.call.specs.Call.{periodsTaken}
 use Rattle.call.specs.Buffers.{callRefusal, summaryOf, filled, overAll, buffersAfter, freshOf}
 use Rattle.call.specs.Pull.{Lent, lentOf, allGiven, possible, nextPart, Outcome, leaves, pullOf, pullNumber}
 use Rattle.call.specs.Machine.{Shown, pulls}
-use Rattle.diphone_c.specs.Open.{answerOf}
-use Rattle.diphone_c.specs.Numbers.{summaryBytes}
-use Rattle.diphone_c.specs.Plan.{Handed, refusalOfPlan, handedBy, handedAfter}
-use Rattle.diphone_c.specs.Pull.{numberFor, stateLeft, sliceLeft}
-use Rattle.diphone_c.proofs.PullLaws.{chosen}
-use Rattle.diphone_c.proofs.PlannedLaws.{PlanEnds, answered-none, by-call}
-use Rattle.diphone_c.proofs.RoundLaws.{Storable}
-use Rattle.diphone_c.proofs.StorableLaws.{fresh-storable}
-use Rattle.diphone_c.proofs.HeldLaws.{HoldsState, stored-holds, outcome-held, next-held, summary-stored}
+use Rattle.c_open.specs.Open.{answerOf}
+use Rattle.c_plan.specs.Reports.{summaryBytes}
+use Rattle.c_plan.specs.Plan.{Handed, refusalOfPlan, handedBy, handedAfter}
+use Rattle.c_pull.specs.Pull.{numberFor, stateLeft, sliceLeft}
+use Rattle.c_pull.proofs.PullLaws.{chosen}
+use Rattle.c_plan.proofs.PlannedLaws.{PlanEnds, answered-none, by-call}
+use Rattle.c_state.proofs.RoundLaws.{Storable}
+use Rattle.c_state.proofs.StorableLaws.{fresh-storable}
+use Rattle.c_plan.proofs.NumberLaws.{summary-stored}
+use Rattle.c_pull.proofs.HeldLaws.{HoldsState, stored-holds, outcome-held, next-held}
 use Rattle.law.proofs.LentLaws.{lent-filled}
 use Rattle.law.proofs.SpokenLaws.{opened, fresh, periods-fit, samples-fit}
 use Rattle.law.specs.SpokenCall.{SpokenCall, LentBytes, voiceIn, sheetIn, bytesAfter, readAs, lentAfter, pullsAfter}
@@ -83,7 +84,7 @@ pulls-in-c b _ s _ _ held z e (more {ds} {os} κs state sizes rows excitation sa
 -- A call of `diphone_plan`, known by its contract, is the definition's.
 plan-in-c : (file sheet : List ℕ) (o : Settings) (h : Handed) (r : ℕ) (after : Handed) → PlanMadeInC file sheet o h r after
     → PlanEnds file sheet o h r after × ((length (h .buffers .sizes) < 2 ^ 64) × (length (h .buffers .excitation) < 2 ^ 64))
-plan-in-c _ _ _ _ _ _ (made κs voice sheet join filter fold index marks sizes rows excitation decoded state summary r after z e post) = ((post .0, post .1), (z, e))
+plan-in-c _ _ _ _ _ _ (made κs voice sheet settings index marks sizes rows excitation decoded state summary r after z e post) = ((post .0, post .1), (z, e))
 
 pub spoken-in-c : (file sheet : List ℕ) (o : Settings) (h after : Handed) → PlanMadeInC file sheet o h 0 after → callRefusal file sheet o (h .buffers) ≡ nothing
 unfolding refusalOfPlan

@@ -17,9 +17,9 @@ use Rattle.call.specs.Buffers.{Buffers, callRefusal, summaryOf}
 use Rattle.call.specs.declared.Answer.{Answer}
 use Rattle.call.specs.declared.Answer.the-variants.{Done, Refused}
 use Rattle.call.specs.Machine.{Shown, machine, written, samplesWritten, bytesOfPeriods, given, SaysDone}
-use Rattle.diphone_c.specs.Numbers.{reportLength}
-use Rattle.diphone_c.specs.State.{stateLength}
-use Rattle.diphone_c.specs.Plan.{Handed}
+use Rattle.c_plan.specs.Reports.{reportLength}
+use Rattle.c_state.specs.State.{stateLength}
+use Rattle.c_plan.specs.Plan.{Handed}
 use Rattle.law.specs.SpokenCall.{SpokenCall, periodsIn, pullsAfter, Longer, BeginsWith}
 use Rattle.law.specs.Made.{PlanMade, MadeAfter}
 use Rattle.law.specs.MadeInC.{PlanMadeInC, MadeInC}

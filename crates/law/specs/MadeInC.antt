@@ -16,20 +16,20 @@ use Rattle.call.specs.declared.Answer.the-variants.{Given, Done, Refused}
 use Rattle.call.specs.Buffers.{Buffers}
 use Rattle.call.specs.Machine.{Shown}
 use Rattle.call.specs.Numbers.{settingsOf}
-use Rattle.diphone_c.specs.Plan.{Handed, handed}
+use Rattle.c_plan.specs.Plan.{Handed, handed}
 use Rattle.diphone_c.proofs.diphone_plan.Reads as plan
 use Rattle.diphone_c.proofs.diphone_pull.Reads as pull
 use Rattle.law.specs.SpokenCall.{SpokenCall, LentBytes}
 
--- A call of `diphone_plan` on a voice file, a sheet, numbers that say the settings, and all that it was lent: what it answered, r, and what it left,
+-- A call of `diphone_plan` on a voice file, a sheet, a word that says the settings, and all that it was lent: what it answered, r, and what it left,
 -- after, is known by what `diphone_plan` ensures. A slice has fewer than 2 ^ 64 bytes.
 pub data PlanMadeInC : List ℕ → List ℕ → Settings → Handed → ℕ → Handed → Type 0 where
-  made : (κs : Lfts 10) (voice sheet : RefT (List ℕ)) (join filter fold : ℕ) (index marks sizes rows excitation decoded state summary : RefT (List ℕ)) (r : ℕ) (after : Handed)
+  made : (κs : Lfts 10) (voice sheet : RefT (List ℕ)) (settings : ℕ) (index marks sizes rows excitation decoded state summary : RefT (List ℕ)) (r : ℕ) (after : Handed)
       → length (now sizes) < 2 ^ 64
       → length (now excitation) < 2 ^ 64
-      → plan.Post κs (voice, (sheet, (join, (filter, (fold, (index, (marks, (sizes, (rows, (excitation, (decoded, (state, (summary, tt))))))))))))) r
-      (voice, (sheet, (join, (filter, (fold, (at-last index (after .buffers .index), (at-last marks (after .buffers .marks), (at-last sizes (after .buffers .sizes), (at-last rows (after .buffers .rows), (at-last excitation (after .buffers .excitation), (at-last decoded (after .buffers .decoded), (at-last state (after .state), (at-last summary (after .summary), tt)))))))))))))
-      → PlanMadeInC (now voice) (now sheet) (settingsOf join filter fold) (handed (now index) (now marks) (now sizes) (now rows) (now excitation) (now decoded) (now state) (now summary)) r after
+      → plan.Post κs (voice, (sheet, (settings, (index, (marks, (sizes, (rows, (excitation, (decoded, (state, (summary, tt))))))))))) r
+      (voice, (sheet, (settings, (at-last index (after .buffers .index), (at-last marks (after .buffers .marks), (at-last sizes (after .buffers .sizes), (at-last rows (after .buffers .rows), (at-last excitation (after .buffers .excitation), (at-last decoded (after .buffers .decoded), (at-last state (after .state), (at-last summary (after .summary), tt)))))))))))
+      → PlanMadeInC (now voice) (now sheet) (settingsOf settings) (handed (now index) (now marks) (now sizes) (now rows) (now excitation) (now decoded) (now state) (now summary)) r after
 
 -- The answer that a pull's number says: the samples given, -1 for done, -14, or else 15.
 abbrev pub answerRead : ℤ → Answer

@@ -120,11 +120,10 @@ fn plan_filled(
     );
     let voice = fit.voice;
     let header = voice.header;
-    let filter = settings.filter;
     Planned {
         answer: Called::Spoken(summary(fit)),
         state: FilterState::fresh(
-            filter,
+            call::filter_in(settings),
             header.order as usize,
             header.coeff_min,
             header.coeff_range,

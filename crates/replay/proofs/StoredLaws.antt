@@ -21,7 +21,8 @@ use Rattle.transcript.specs.CallText.{callText}
 use Rattle.transcript.proofs.CallLaws.{taken-length}
 use Rattle.replay.specs.declared.Found.{Found}
 use Rattle.replay.specs.declared.Found.the-variants.{Call}
-use Rattle.replay.specs.Stored.{settingsOf, lengthAt, limits, fitting, fits, buffersOf, textOf, kindUpTo, lineEnd, linesIn, Sound}
+use Rattle.call.specs.Numbers.{settingsOf}
+use Rattle.replay.specs.Stored.{lengthAt, limits, fitting, fits, buffersOf, textOf, kindUpTo, lineEnd, linesIn, Sound}
 
 -- ---- lengths and limits
 

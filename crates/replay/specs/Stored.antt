@@ -3,25 +3,20 @@
 use mathlib.Core.Path.{_≡_}
 use mathlib.Core.Bool.{Bool, true, _&&_}
 use mathlib.Core.List.{List, [], _∷_}
-use Prim.Native.Nat.{ℕ, zero, suc, _+_, _-_, _/_, _%_, _≤_, _<_}
+use Prim.Native.Nat.{ℕ, zero, suc, _+_, _-_, _≤_, _<_}
 use lib.Dec.{eqb, leb}
 use lib.ListN.{length, getD, take, replicate}
 use Rattle.base.specs.Choice.{pick}
 use Rattle.base.specs.Bytes.{u16At}
 use Rattle.text.specs.Names.{same}
-use Rattle.call.specs.declared.Settings.{Settings}
 use Rattle.call.specs.Buffers.{Buffers, lent}
-use Rattle.call.specs.Numbers as numbers
+use Rattle.call.specs.Numbers.{settingsOf}
 use Rattle.lines.specs.Lines.{refused}
 use Rattle.transcript.specs.CallText.{callText}
 use Rattle.replay.specs.declared.Found.{Found}
 use Rattle.replay.specs.declared.Found.the-variants.{End, Damaged, Call}
 
 -- ---- the head
-
--- its second byte: join + 4 * filter + 8 * fold, each by the numbers of the interface for C
-unfoldable pub settingsOf : ℕ → Settings
-settingsOf byte = numbers.settingsOf (byte % 4) (byte / 4 % 2) (byte / 8)
 
 -- its lengths, after two bytes: 0 voice, 1 sheet, 2 to 7 the buffers lent, 8 text
 abbrev pub lengthAt : List ℕ → ℕ → ℕ
@@ -52,7 +47,7 @@ buffersOf head =
 
 -- ---- the answer
 
--- the call's text, by document 01
+-- the call's text, by document 01; the head's second byte is the word of the settings
 unfoldable pub textOf : List ℕ → List ℕ → List ℕ → List ℕ
 textOf head voice sheet = callText voice sheet (settingsOf (getD head 1 0)) (buffersOf head)
 

@@ -8,7 +8,6 @@ ghost use Rattle.lines.specs.Lines.{Puts};
 ghost use Rattle.lines.specs.Lines as lines;
 ghost use Rattle.replay.specs.Stored as stored;
 ghost use Rattle.replay.specs.Tallies as tally;
-use call::Settings;
 use libc::STDOUT_FILENO;
 
 // ---- counting
@@ -75,14 +74,6 @@ impl Tally {
 
 // ---- the head of a stored call
 
-// The settings of a byte.
-fn settings_of(byte: u8) -> Settings
-    ensures { λ r. ⌜ r ≡ stored.settingsOf byte ⌝ }
-{
-    let n = byte as u32;
-    call::settings_of(n % 4, n / 4 % 2, n / 8)
-}
-
 const LIMITS: [usize; 9] = [32768, 4096, 8192, 4096, 4096, 2048, 4096, 1024, 41000];
 
 // Whether no length of a head is above its limit.
@@ -131,7 +122,7 @@ fn put_text(head: &[u8], voice: &[u8], sheet: &[u8], out: &mut [u8]) -> usize
     transcript::put_call(
         voice,
         sheet,
-        settings_of(head[1]),
+        call::settings_of(head[1] as u32),
         &mut index[..a],
         &mut marks[..b],
         &mut sizes[..c],

@@ -184,13 +184,7 @@ fn request<'a>(voice: &'a [u8], sheet: &'a [u8], settings: Settings) -> Request<
     Request {
         voice,
         sheet,
-        join: match settings.join {
-            Join::None => 0,
-            Join::Simple => 1,
-            Join::Modified => 2,
-        },
-        filter: u32::from(settings.filter == Filter::Float),
-        fold: u32::from(settings.fold),
+        settings: settings.word(),
     }
 }
 

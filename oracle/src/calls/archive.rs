@@ -8,8 +8,7 @@ unsafe extern "C" {
         voice_len: usize,
         sheet: *const u8,
         sheet_len: usize,
-        join: u32,
-        fold: u32,
+        settings: u32,
         need: *mut u8,
         need_len: usize,
     ) -> u32;
@@ -18,9 +17,7 @@ unsafe extern "C" {
         voice_len: usize,
         sheet: *const u8,
         sheet_len: usize,
-        join: u32,
-        filter: u32,
-        fold: u32,
+        settings: u32,
         index: *mut u8,
         index_len: usize,
         marks: *mut u8,
@@ -57,13 +54,11 @@ pub const NEED_BYTES: usize = 48;
 pub const STATE_BYTES: usize = 168;
 pub const SUMMARY_BYTES: usize = 48;
 
-/// The files and the settings of a call, as numbers.
+/// The files of a call, and the word of its settings.
 pub struct Request<'a> {
     pub voice: &'a [u8],
     pub sheet: &'a [u8],
-    pub join: u32,
-    pub filter: u32,
-    pub fold: u32,
+    pub settings: u32,
 }
 
 /// A slice without bytes goes as a null pointer.
@@ -83,8 +78,7 @@ pub fn need(request: &Request, need: &mut Guarded) -> u32 {
             voice.len(),
             pointer(sheet),
             sheet.len(),
-            request.join,
-            request.fold,
+            request.settings,
             need.pointer(),
             need.length(),
         )
@@ -104,9 +98,7 @@ pub fn plan(request: &Request, buffers: &mut [Guarded; 8]) -> u32 {
             voice.len(),
             pointer(sheet),
             sheet.len(),
-            request.join,
-            request.filter,
-            request.fold,
+            request.settings,
             pointers[0],
             lengths[0],
             pointers[1],

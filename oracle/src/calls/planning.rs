@@ -33,25 +33,22 @@ fn width(buffer: usize) -> usize {
     }
 }
 
-/// The settings as numbers; the highest of each stands for all above it.
+/// The settings as a word, in one of its forms: 3 is the modified join too, 0
+/// and 3 of the filter's bits are float too, and bits from 5 on mean nothing.
 pub fn request<'a>(rng: &mut Rng, call: &'a Call) -> Request<'a> {
     let settings = call.settings;
+    let mut word = settings.word();
+    if settings.join == Join::Modified {
+        word |= rng.pick(&[0, 0, 0, 1]);
+    }
+    if settings.filter == Filter::Float {
+        word = word & !12 | rng.pick(&[8, 8, 0, 12]);
+    }
+    word |= rng.pick(&[0, 0, 0, 32, 256, u32::MAX << 5]);
     Request {
         voice: &call.voice,
         sheet: &call.sheet,
-        join: match settings.join {
-            Join::None => 0,
-            Join::Simple => 1,
-            Join::Modified => rng.pick(&[2, 2, 2, 3, 256, u32::MAX]),
-        },
-        filter: match settings.filter {
-            Filter::Fixed => 0,
-            Filter::Float => rng.pick(&[1, 1, 1, 2, 256, u32::MAX]),
-        },
-        fold: match settings.fold {
-            false => 0,
-            true => rng.pick(&[1, 1, 1, 2, 256, u32::MAX]),
-        },
+        settings: word,
     }
 }
 

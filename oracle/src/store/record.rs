@@ -1,6 +1,6 @@
 //! A stored call, and its bytes in the file.
 
-use crate::call::{Filter, Join, Settings, JOINS};
+use crate::call::{Filter, Join, Settings};
 use crate::expected::{self, Given, Most, Spoken, SHORT_BUFFER};
 use crate::lines;
 
@@ -96,7 +96,7 @@ impl Stored {
         let voice = if is_new { &self.voice[..] } else { &[] };
         let text = self.text();
         assert!(text.len() <= MOST_TEXT, "a text of {} bytes", text.len());
-        let mut bytes = vec![u8::from(is_new), settings_byte(self.settings)];
+        let mut bytes = vec![u8::from(is_new), self.settings.word() as u8];
         let lengths = [
             &[voice.len(), self.sheet.len()],
             &self.lent[..],
@@ -111,11 +111,4 @@ impl Stored {
         bytes.extend(text.as_bytes());
         bytes
     }
-}
-
-/// Join, 4 times filter, 8 times fold.
-fn settings_byte(settings: Settings) -> u8 {
-    let join = JOINS.iter().position(|join| *join == settings.join);
-    let filter = settings.filter == Filter::Float;
-    join.unwrap_or(0) as u8 + 4 * u8::from(filter) + 8 * u8::from(settings.fold)
 }

@@ -15,7 +15,7 @@ use Rattle.call.specs.declared.Answer.{Answer}
 use Rattle.call.specs.declared.Answer.the-variants.{Given}
 use Rattle.call.specs.Pull.{Lent, lentOf, possible, nextPart, Outcome, leaves}
 use Rattle.call.proofs.PullLaws.{pull-impossible, pull-done, pull-short, pull-gives}
-use Rattle.diphone.proofs.PullingLaws.{period-low, sample-low, can-take, next-is}
+use Rattle.pulling.proofs.PullingLaws.{period-low, sample-low, can-take, next-is}
 use borrow.Author.Needs.{needs}
 use Rattle.diphone.proofs.pull.Statement.{statement}
 use Rattle.diphone.proofs.pull.Tie as tie

@@ -1,0 +1,2 @@
+-- The root of c_open's laws.
+pub mod RecordLaws

@@ -1,0 +1,2 @@
+-- The root of c_open's definitions.
+pub mod Open

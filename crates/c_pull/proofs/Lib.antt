@@ -1,0 +1,3 @@
+-- The root of c_pull's laws.
+pub mod PullLaws
+pub mod HeldLaws

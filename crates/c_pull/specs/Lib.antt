@@ -1,0 +1,2 @@
+-- The root of c_pull's definitions.
+pub mod Pull

@@ -1,0 +1,2 @@
+-- The root of c_state's definitions.
+pub mod State

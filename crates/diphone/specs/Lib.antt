@@ -1,2 +1,0 @@
--- The root of diphone's definitions.
-pub mod Pulling

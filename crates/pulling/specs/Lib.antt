@@ -1,0 +1,2 @@
+-- The root of pulling's definitions.
+pub mod Pulling
