@@ -1,4 +1,4 @@
--- A sheet that is read has its followers among its own segments.
+-- What came of readings, one after the other; a sheet that is read has its followers among its own segments.
 use mathlib.Core.Path.{_≡_, refl, ap, subst, _∙_}
 use mathlib.Core.Bool.{Bool, true, false}
 use mathlib.Core.List.{List, [], _∷_}

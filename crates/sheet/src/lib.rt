@@ -4,8 +4,8 @@ ghost use mathlib.Core.Path.{_≡_};
 ghost use mathlib.Core.Bool.{true};
 ghost use Prim.Native.Nat.{_+_, _^_, _≤_};
 ghost use lib.ListN.{length, drop};
-ghost use Rattle.sheet.specs.Sheet as sheets;
 ghost use Rattle.refusal.specs.Number.{answerOf};
+ghost use Rattle.sheet.specs.Sheet as sheets;
 ghost use Rattle.sheet.specs.Answers.{reads, NumberIs, NameIs, ValueIs, SegmentSaid, SegmentIs};
 ghost use Rattle.sheet.specs.Answers.{TargetSaid, TargetIs, ItemsIs, bytesAt, floatRead, standing};
 ghost use Rattle.sheet.specs.Followers.{nameOf};
@@ -33,6 +33,8 @@ pub struct Target {
     pub pos: Value,
     pub f0: Value,
 }
+
+// What the reader answers at a place: why it is refused, or what was read and the place after it.
 
 // A number that was read, and the place after it.
 enum GotNumber {
