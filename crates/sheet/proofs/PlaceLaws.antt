@@ -9,12 +9,11 @@ use lib.Dec.{ltb}
 use lib.ListN.{length, drop, length-drop}
 use Rattle.refusal.specs.declared.Refusal.{Refusal}
 use Rattle.refusal.specs.declared.Refusal.the-variants.{BadSheet}
-use Rattle.sheet.specs.Sheet.{Got, fails, gets, _andThen_, malformedIf, Counted, Parts, count, counted, segment, target, repeated, sheetFrom}
+use Rattle.sheet.specs.Sheet.{Got, fails, gets, _andThen_, malformedIf, count, counted, segment, target, repeated, sheetFrom}
 use Rattle.sheet.specs.Answers.{Said, refuses, reads, Agrees, ItemsIs, standing}
 use Rattle.sheet.specs.Places.{mapped, itemsIn, placesIn, sheetPlaces}
 use Rattle.sheet.specs.declared.Items.{Items}
-use Rattle.sheet.specs.declared.Places.{Places}
-use Rattle.sheet.specs.declared.GotItems.the-variants.{Refused, Read}
+use Rattle.sheet.specs.declared.GotItems.the-variants.{Refused}
 use Rattle.sheet.proofs.SheetLaws.{refused-got}
 use Rattle.sheet.proofs.AnswerLaws.{refused, same-reading, then-stops, then-on, read-within}
 

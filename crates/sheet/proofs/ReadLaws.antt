@@ -1,19 +1,17 @@
 -- What the places of a sheet say of `sheetOf` and `sheetRefusal`.
 use mathlib.Core.Path.{_≡_, refl, sym, ap, subst, _∙_}
 use mathlib.Core.List.{List}
-use Prim.Native.Nat.{ℕ, _≤_}
+use Prim.Native.Nat.{ℕ}
 use native.Mathlib.Omega.{arith}
-use borrow.Author.Tests.{ltb-false}
-use lib.Dec.{ltb}
 use lib.ListN.{length}
 use Rattle.refusal.specs.Number.{answerOf}
-use Rattle.sheet.specs.Sheet.{SegmentRead, Sheet, Got, fails, gets, Counted, Parts, count, segment, target, repeated, sheetFrom, refusalIn, sheetRefusal, sheetIn, sheetOf}
+use Rattle.sheet.specs.Sheet.{SegmentRead, Sheet, Got, fails, gets, Counted, Parts, segment, target, repeated, sheetFrom, refusalIn, sheetRefusal, sheetIn, sheetOf}
 use Rattle.sheet.specs.Places.{mapped, itemsIn, placesIn, sheetPlaces, answerIn, refusalOf, sheetNumber}
 use Rattle.sheet.specs.declared.Places.{Places}
 use Rattle.sheet.specs.declared.Target.{Target}
 use Rattle.sheet.specs.declared.SheetAnswer.{SheetAnswer}
 use Rattle.sheet.specs.declared.SheetAnswer.the-variants.{Refused, Read}
-use Rattle.sheet.proofs.SheetLaws.{came, formed, refused-got, Reads, ReadParts, read-parts}
+use Rattle.sheet.proofs.SheetLaws.{refused-got, Reads, read-parts}
 use Rattle.sheet.proofs.SuffixLaws.{Suffix, all, suffix-place, Leaves, nothing, end, count-leaves, segment-leaves, repeated-leaves, trans}
 use Rattle.sheet.proofs.WalkLaws.{Ahead, Walk, walk-yields}
 
@@ -43,21 +41,10 @@ answer-number sheet r e = (e, by r ∙ ap answerOf (answer-refusal sheet r e))
 pub record SheetAhead (sheet : List ℕ) (p : Places) : Type 0 where
   pub segments : Ahead (segment (p .segments .count)) sheet (p .segments .count) (p .segments .at) (sheetOf sheet .segments)
   pub targets : Ahead target sheet (p .targets .count) (p .targets .at) (sheetOf sheet .targets)
-  pub few-segments : p .segments .count ≤ 4096
-  pub few-targets : p .targets .count ≤ 4096
-  pub segments-within : p .segments .at ≤ length sheet
-  pub targets-within : p .targets .at ≤ length sheet
 
 rest-of : {A : Type 0} {bs : List ℕ} {g : Got A} → Leaves bs g → (x : A) (r : List ℕ) → g ≡ gets x r → Suffix r bs
 rest-of (nothing {c}) x r e = absurd (refused-got c x r e)
 rest-of {bs = bs} (end s) x r e = subst (λ (q : List ℕ). Suffix q bs) (cc) s
-
-count-small : (bs : List ℕ) (n : ℕ) (r : List ℕ) → count bs ≡ gets n r → n ≤ 4096
-unfolding count
-count-small bs n r e =
-    let a = came _ _ n r e in
-    let f = formed (ltb 4096 (a .value)) _ n _ r (a .after) in
-    subst (λ (k : ℕ). k ≤ 4096) (f .1) (ltb-false 4096 (a .value) (f .0))
 
 -- segments, or targets, that were read from what is left of a sheet
 module _ {A : Type 0} (one : ℕ → List ℕ → Got A) (sheet bs : List ℕ) (s : Suffix bs sheet) (c : Counted A) (r : List ℕ) (k : Reads one bs c r) where
@@ -86,10 +73,6 @@ parts-ahead sheet p q e =
           (λ (x : Sheet). Ahead target sheet (p .targets .count) (itemsIn sheet (p .targets) .at) (x .targets))
           i
           (items-ahead (λ n. target) sheet (k .rest) t (p .targets) (k .end) (k .targets));
-      few-segments = count-small sheet (c .count) (c .from) (k .segments .many);
-      few-targets = count-small (k .rest) (p .targets .count) (p .targets .from) (k .targets .many);
-      segments-within = omega arith;
-      targets-within = omega arith;
     }
 
 -- a sheet that was read
