@@ -48,7 +48,7 @@ module _ (file sheet : List ℕ) (o : Settings) (d : DiphoneVoice) (p : Places) 
   joins k e = subst (λ (x : Joined). Joins (planOf (voiceOf file) (sheetOf sheet) o) x) e is
 
   decided : (x : Option Refusal) → planOf (voiceOf file) (sheetOf sheet) o .refusal ≡ x → checkRefusal file sheet o ≡ x
-  decided x e = plan-decides file sheet o x (opened .fit) (sym (answer-refusal sheet (Read p) (sym read) .1)) e
+  decided x e = plan-decides file sheet o x (opened .fit) (sym (answer-refusal sheet (Read p) (sym read))) e
 
   pub join-refused : (r : Refusal) → j ≡ join.Refused r → checkRefusal file sheet o ≡ some r
   join-refused r e = decided (some r) (joins (join.Refused r) e)

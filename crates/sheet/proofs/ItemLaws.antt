@@ -1,12 +1,14 @@
--- Segments, or targets, one after the other: where they end.
+-- Segments, or targets, one after the other: where they stand and where they end. One law for both, over what reads one of them.
 use mathlib.Core.Path.{_≡_, refl, sym, ap, _∙_}
 use mathlib.Core.List.{List, _∷_}
-use Prim.Native.Nat.{ℕ, zero, suc, _-_}
+use Prim.Native.Nat.{ℕ, zero, suc, _-_, _≤_}
 use native.Mathlib.Omega.{arith}
-use lib.ListN.{drop}
+use lib.ListN.{length, drop}
 use Rattle.refusal.specs.declared.Refusal.{Refusal}
 use Rattle.sheet.specs.Sheet.{Got, fails, gets, _andThen_, repeated}
-use Rattle.sheet.specs.Answers.{Says, refuses, reads, got, Answers, ended}
+use Rattle.sheet.specs.Answers.{Said, refuses, reads, meant, Agrees, ItemsIs, standing}
+use Rattle.sheet.specs.declared.GotItems.the-variants.{Refused, Read}
+use Rattle.sheet.proofs.AnswerLaws.{refused, read, read-within}
 
 module _ {B : Type 0} (one : List ℕ → Got B) where
   -- a step of the definition, with its first reading given
@@ -18,30 +20,45 @@ module _ {B : Type 0} (one : List ℕ → Got B) where
   one-more zero bs n = absurd (n refl)
   one-more (suc k) bs n = let e : suc k - 1 ≡ k = omega arith in rw e
 
-  pub ended-none : (bs : List ℕ) → ended (repeated one 0 bs) ≡ gets tt bs
-  unfolding repeated
-  ended-none bs = refl
+  module _ (sheet : List ℕ) (n at : ℕ) where
+    stands-none : (bs : List ℕ) → standing n at (repeated one 0 bs) ≡ gets (record { count = n; at = at }) bs
+    unfolding repeated
+    stands-none bs = refl
 
-  ended-cons : (x : B) (g : Got (List B)) → ended (g andThen λ xs r₁. gets (x ∷ xs) r₁) ≡ ended g
-  unfolding _andThen_
-  ended-cons x (fails r) = refl
-  ended-cons x (gets xs bs) = refl
-
-  -- after the answer about the first
-  module _ {A : Type 0} {sheet : List ℕ} {meaning : A → B} {P : A → Type 0} {says : Says A} (k : ℕ) (bs : List ℕ) (n : k ≡ 0 → ⊥) (i : Answers sheet meaning P says (one bs)) where
-    by-answer : {says′ : Says A} → says ≡ says′ → repeated one k bs ≡ turn (k - 1) (got sheet meaning says′)
-    by-answer e = one-more k bs n ∙ ap (turn (k - 1)) (sym (i .is) ∙ ap (got sheet meaning) e)
-
-    pub ended-refused : {r : Refusal} → says ≡ refuses r → ended (repeated one k bs) ≡ fails r
+    stands-cons : (x : B) (g : Got (List B)) → standing n at (g andThen λ xs r₁. gets (x ∷ xs) r₁) ≡ standing n at g
     unfolding _andThen_
-    ended-refused e = ap ended (by-answer e)
+    stands-cons x (fails r) = refl
+    stands-cons x (gets xs bs) = refl
 
-    pub ended-more : {a : A} {next : ℕ} → says ≡ reads a next → ended (repeated one k bs) ≡ ended (repeated one (k - 1) (drop next sheet))
-    unfolding _andThen_
-    ended-more {a} {next} e = ap ended (by-answer e) ∙ ended-cons (meaning a) (repeated one (k - 1) (drop next sheet))
+    abbrev all : Got (List B)
+    all = repeated one n (drop at sheet)
 
--- what comes after the items goes by where they end
-pub after-items : {A B : Type 0} (g : Got A) (f : List ℕ → Got B) → (g andThen λ x bs. f bs) ≡ (ended g andThen λ u bs. f bs)
-unfolding _andThen_
-after-items (fails r) f = refl
-after-items (gets x bs) f = refl
+    -- so many are left to skip from a place on
+    pub record Skipping (place left : ℕ) : Type 0 where
+      pub inside : place ≤ length sheet
+      pub ends : standing n at (repeated one left (drop place sheet)) ≡ standing n at all
+
+    pub skip-first : at ≤ length sheet → Skipping at n
+    skip-first h = record { inside = h; ends = refl }
+
+    module _ (place left : ℕ) (s : Skipping place left) where
+      pub skip-done : left ≡ 0 → ItemsIs sheet (Read (record { count = n; at = at }) place) (standing n at all)
+      skip-done z =
+          read (sym (s .ends) ∙ ap (λ (k : ℕ). standing n at (repeated one k (drop place sheet))) z ∙ stands-none (drop place sheet)) (s .inside) tt
+
+      -- after what was said of the first
+      module _ {A : Type 0} {meaning : A → B} {P : A → Type 0} {said : Said A} (some : left ≡ 0 → ⊥) (i : Agrees sheet meaning P said (one (drop place sheet))) where
+        by-said : {said′ : Said A} → said ≡ said′ → repeated one left (drop place sheet) ≡ turn (left - 1) (meant sheet meaning said′)
+        by-said e = one-more left (drop place sheet) some ∙ ap (turn (left - 1)) (sym (i .same) ∙ ap (meant sheet meaning) e)
+
+        pub skip-refused : {c : Refusal} → said ≡ refuses c → ItemsIs sheet (Refused c) (standing n at all)
+        unfolding _andThen_
+        skip-refused e = refused (sym (s .ends) ∙ ap (standing n at) (by-said e))
+
+        pub skip-on : {a : A} {next : ℕ} → said ≡ reads a next → Skipping next (left - 1)
+        unfolding _andThen_
+        skip-on {a} {next} e =
+            record {
+              inside = read-within i e .0;
+              ends = sym (ap (standing n at) (by-said e) ∙ stands-cons (meaning a) (repeated one (left - 1) (drop next sheet))) ∙ s .ends;
+            }

@@ -9,10 +9,11 @@ use borrow.Author.Tests.{lt-leb, le-leb, lt-ltb, le-ltb}
 use lib.Dec.{leb, ltb}
 use lib.ListN.{length, take, drop, getD, length-drop, drop-of-length-le}
 use lib.Seq.{drop-drop}
+use Rattle.refusal.specs.declared.Refusal.the-variants.{BadSheet}
 use Rattle.sheet.specs.Sheet.{Got, gets, malformedIf, _andThen_, number, printable, name}
 use Rattle.sheet.specs.Answers.{NameIs}
 use Rattle.sheet.specs.declared.GotName.{GotName}
-use Rattle.sheet.specs.declared.GotName.the-variants.{Malformed, Read}
+use Rattle.sheet.specs.declared.GotName.the-variants.{Refused, Read}
 use Rattle.sheet.proofs.AnswerLaws.{from-place, read, test-passes, test-fails}
 
 module _ (bytes : List ℕ) (i : ℕ) where
@@ -62,13 +63,13 @@ module _ (sheet : List ℕ) (from n : ℕ) where
   looked-is : looked ≡ take n r
   looked-is = ap (λ (k : ℕ). take k r) (add-sub-cancel-left from n)
 
-  malformed : badly n r ≡ true → Is Malformed
+  malformed : badly n r ≡ true → Is (Refused BadSheet)
   malformed e = test-passes (gets (take n r) (drop n r)) e
 
-  pub name-long : 32 < n → Is Malformed
+  pub name-long : 32 < n → Is (Refused BadSheet)
   name-long h = malformed (let t = lt-ltb 32 n h in rw t)
 
-  pub name-cut : n ≤ 32 → from ≤ length sheet → length sheet < from + n → Is Malformed
+  pub name-cut : n ≤ 32 → from ≤ length sheet → length sheet < from + n → Is (Refused BadSheet)
   name-cut l h k =
       let t = le-ltb 32 n l in
       let c : length r < n = rw length-drop (omega arith) in
@@ -84,7 +85,7 @@ module _ (sheet : List ℕ) (from n : ℕ) where
         let v = le-ltb (length r) n c in
         rw (u, v, q)
 
-    pub name-bad : printable looked ≡ false → Is Malformed
+    pub name-bad : printable looked ≡ false → Is (Refused BadSheet)
     name-bad p = malformed (by-bytes false p)
 
     pub name-good : printable looked ≡ true → Is (Read (record { at = from; len = n }))

@@ -1,5 +1,5 @@
 -- The places of a sheet's parts.
-use mathlib.Core.Path.{_≡_, refl, ap, _∙_}
+use mathlib.Core.Path.{_≡_, refl, sym, ap, _∙_}
 use mathlib.Core.Bool.{Bool, true, false}
 use mathlib.Core.List.{List}
 use Prim.Native.Nat.{ℕ, _-_, _≤_, _<_}
@@ -9,77 +9,98 @@ use lib.Dec.{ltb}
 use lib.ListN.{length, drop, length-drop}
 use Rattle.refusal.specs.declared.Refusal.{Refusal}
 use Rattle.refusal.specs.declared.Refusal.the-variants.{BadSheet}
-use Rattle.sheet.specs.Sheet.{Got, fails, gets, _andThen_, malformedIf, count, segment, target, repeated}
-use Rattle.sheet.specs.Answers.{Says, refuses, reads, Answers, ended}
-use Rattle.sheet.specs.Places.{itemsAt, placesAfter, sheetPlaces}
+use Rattle.sheet.specs.Sheet.{Got, fails, gets, _andThen_, malformedIf, count, counted, segment, target, repeated, sheetFrom}
+use Rattle.sheet.specs.Answers.{Said, refuses, reads, Agrees, ItemsIs, standing}
+use Rattle.sheet.specs.Places.{mapped, itemsIn, placesIn, sheetPlaces}
 use Rattle.sheet.specs.declared.Items.{Items}
-use Rattle.sheet.specs.declared.Places.{Places}
-use Rattle.sheet.proofs.AnswerLaws.{then-stops, then-on, read-within}
-use Rattle.sheet.proofs.ItemLaws.{after-items}
+use Rattle.sheet.specs.declared.GotItems.the-variants.{Refused}
+use Rattle.sheet.proofs.SheetLaws.{refused-got}
+use Rattle.sheet.proofs.AnswerLaws.{refused, same-reading, then-stops, then-on, read-within}
 
--- items at a place of the sheet
-items-place : (sheet : List ℕ) (n at : ℕ) → at ≤ length sheet → itemsAt sheet n (drop at sheet) ≡ record { count = n; at = at }
-items-place sheet n at h =
-    let e : length sheet - length (drop at sheet) ≡ at = rw length-drop (omega arith) in
-    ap (λ (k : ℕ). record { count = n; at = k }) e
+-- ---- a count, and so many items: one law for segments and targets, over what reads one of them
 
--- ---- a count, so many items, and what comes after them
+-- the items are ahead of the place where their bytes begin
+stand-there : {A : Type 0} (sheet : List ℕ) (n from : ℕ) → from ≤ length sheet → (g : Got (List A))
+    → mapped (itemsIn sheet) (g andThen λ xs r. gets (record { count = n; from = drop from sheet; items = xs }) r) ≡ standing n from g
+unfolding _andThen_
+stand-there sheet n from h (fails c) = refl
+stand-there sheet n from h (gets xs r) =
+    let e : length sheet - length (drop from sheet) ≡ from = rw length-drop (omega arith) in
+    ap (λ (k : ℕ). gets (record { count = n; at = k }) r) e
 
-module _ {A : Type 0} (one : ℕ → List ℕ → Got A) (f : ℕ → List ℕ → List ℕ → Got Places) where
-  abbrev follow : ℕ → List ℕ → Got Places
-  follow n r = repeated (one n) n r andThen λ xs r₁. f n r r₁
+module _ {A : Type 0} (one : ℕ → List ℕ → Got A) (sheet : List ℕ) where
+  module _ {P : ℕ → Type 0} {said : Said ℕ} (bs : List ℕ) (i : Agrees sheet (λ n. n) P said (count bs)) where
+    pub uncounted : {c : Refusal} → said ≡ refuses c → ItemsIs sheet (Refused c) (mapped (itemsIn sheet) (counted one bs))
+    uncounted e = refused (ap (mapped (itemsIn sheet)) (then-stops i _ e))
 
-  abbrev pub counted : List ℕ → Got Places
-  counted bs = count bs andThen follow
+    pub by-count : {n from : ℕ} {said′ : Said Items} → said ≡ reads n from
+        → Agrees sheet (λ x. x) (λ x. Unit) said′ (standing n from (repeated (one n) n (drop from sheet)))
+        → Agrees sheet (λ x. x) (λ x. Unit) said′ (mapped (itemsIn sheet) (counted one bs))
+    by-count {n} {from} e j =
+        same-reading (ap (mapped (itemsIn sheet)) (then-on i _ e) ∙ stand-there sheet n from (read-within i e .0) (repeated (one n) n (drop from sheet))) j
 
-  module _ {sheet : List ℕ} {P : ℕ → Type 0} {says : Says ℕ} (bs : List ℕ) (i : Answers sheet (λ n. n) P says (count bs)) where
-    pub uncounted : {c : Refusal} → says ≡ refuses c → counted bs ≡ fails c
-    uncounted e = then-stops i follow e
+-- ---- what a reading was, by what it was mapped to
 
-    module _ {n from : ℕ} (e : says ≡ reads n from) {Q : Unit → Type 0} {says′ : Says Unit} (j : Answers sheet (λ u. u) Q says′ (ended (repeated (one n) n (drop from sheet)))) where
-      by-end : counted bs ≡ (ended (repeated (one n) n (drop from sheet)) andThen λ u r₁. f n (drop from sheet) r₁)
-      by-end = then-on i follow e ∙ after-items (repeated (one n) n (drop from sheet)) (f n (drop from sheet))
+module _ {A B : Type 0} (f : A → B) where
+  was-refused : (g : Got A) (c : Refusal) → mapped f g ≡ fails c → g ≡ fails c
+  was-refused (fails d) c e = let z : d ≡ c = cc in ap fails z
+  was-refused (gets x r) c e = absurd (refused-got c (f x) r (sym e))
 
-      pub items-refused : {c : Refusal} → says′ ≡ refuses c → counted bs ≡ fails c
-      items-refused g = by-end ∙ then-stops j (λ u r₁. f n (drop from sheet) r₁) g
+  record Was (g : Got A) (y : B) (r : List ℕ) : Type 0 where
+    value : A
+    is : g ≡ gets value r
+    means : f value ≡ y
 
-      pub items-read : {end : ℕ} → says′ ≡ reads tt end → counted bs ≡ f n (drop from sheet) (drop end sheet)
-      items-read g = by-end ∙ then-on j (λ u r₁. f n (drop from sheet) r₁) g
+  was-read : (g : Got A) (y : B) (r : List ℕ) → mapped f g ≡ gets y r → Was g y r
+  was-read (fails c) y r e = absurd (refused-got c y r e)
+  was-read (gets x q) y r e = let z : q ≡ r = cc in record { value = x; is = ap (gets x) z; means = cc }
+
+on : {A B : Type 0} {g : Got A} {x : A} {r : List ℕ} (f : A → List ℕ → Got B) → g ≡ gets x r → (g andThen f) ≡ f x r
+unfolding _andThen_
+on f e = ap (λ g. g andThen f) e
+
+off : {A B : Type 0} {g : Got A} {c : Refusal} (f : A → List ℕ → Got B) → g ≡ fails c → (g andThen f) ≡ fails c
+unfolding _andThen_
+off f e = ap (λ g. g andThen f) e
 
 -- ---- the two parts of a sheet
 
-module _ (sheet : List ℕ) where
-  -- after the segments come the targets
-  abbrev pub afterSegments : ℕ → List ℕ → List ℕ → Got Places
-  afterSegments n r r₁ = placesAfter sheet (itemsAt sheet n r) r₁
+module _ (sheet : List ℕ) {P : Items → Type 0} {said : Said Items} (i : Agrees sheet (λ x. x) P said (mapped (itemsIn sheet) (counted segment sheet))) where
+  pub segments-refused : {c : Refusal} → said ≡ refuses c → sheetPlaces sheet ≡ fails c
+  unfolding sheetPlaces sheetFrom
+  segments-refused {c} e =
+      let g = was-refused (itemsIn sheet) (counted segment sheet) c (sym ((rw e at i) .same)) in
+      ap (mapped (placesIn sheet)) (off _ g)
 
-  pub places-counted : sheetPlaces sheet ≡ counted segment afterSegments sheet
-  unfolding sheetPlaces
-  places-counted = refl
+  module _ {segments : Items} {next : ℕ} (e : said ≡ reads segments next) {Q : Items → Type 0} {said′ : Said Items}
+      (j : Agrees sheet (λ x. x) Q said′ (mapped (itemsIn sheet) (counted (λ n. target) (drop next sheet)))) where
+    first : Was (itemsIn sheet) (counted segment sheet) segments (drop next sheet)
+    first = was-read (itemsIn sheet) (counted segment sheet) segments (drop next sheet) (sym ((rw e at i) .same))
 
-  pub segments-here : (n from : ℕ) (r₁ : List ℕ) → from ≤ length sheet → afterSegments n (drop from sheet) r₁ ≡ placesAfter sheet (record { count = n; at = from }) r₁
-  segments-here n from r₁ h = ap (λ (s : Items). placesAfter sheet s r₁) (items-place sheet n from h)
+    pub targets-refused : {c : Refusal} → said′ ≡ refuses c → sheetPlaces sheet ≡ fails c
+    unfolding sheetPlaces sheetFrom
+    targets-refused {c} h =
+        let g = was-refused (itemsIn sheet) (counted (λ n. target) (drop next sheet)) c (sym ((rw h at j) .same)) in
+        ap (mapped (placesIn sheet)) (on _ (first .is) ∙ off _ g)
 
-  module _ (segments : Items) where
-    -- after the targets comes nothing
-    abbrev pub afterTargets : ℕ → List ℕ → List ℕ → Got Places
-    afterTargets m r r₁ = malformedIf (ltb 0 (length r₁)) (gets (record { segments = segments; targets = itemsAt sheet m r }) r₁)
+    module _ {targets : Items} {end : ℕ} (h : said′ ≡ reads targets end) where
+      second : Was (itemsIn sheet) (counted (λ n. target) (drop next sheet)) targets (drop end sheet)
+      second = was-read (itemsIn sheet) (counted (λ n. target) (drop next sheet)) targets (drop end sheet) (sym ((rw h at j) .same))
 
-    pub after-counted : (bs : List ℕ) → placesAfter sheet segments bs ≡ counted (λ m. target) afterTargets bs
-    unfolding placesAfter
-    after-counted bs = refl
+      by-rest : (t : Bool) → ltb 0 (length sheet - end) ≡ t
+          → sheetPlaces sheet ≡ mapped (placesIn sheet) (malformedIf t (gets (record { segments = first .value; targets = second .value }) (drop end sheet)))
+      unfolding sheetPlaces sheetFrom
+      by-rest t l =
+          let k : ltb 0 (length (drop end sheet)) ≡ t = rw length-drop l in
+          ap (mapped (placesIn sheet))
+          (on _ (first .is) ∙ on _ (second .is)
+          ∙ ap (λ (u : Bool). malformedIf u (gets (record { segments = first .value; targets = second .value }) (drop end sheet))) k)
 
-    by-rest : (t : Bool) (m : ℕ) (r : List ℕ) (end : ℕ) → ltb 0 (length sheet - end) ≡ t
-        → afterTargets m r (drop end sheet) ≡ malformedIf t (gets (record { segments = segments; targets = itemsAt sheet m r }) (drop end sheet))
-    by-rest t m r end e =
-        let h : ltb 0 (length (drop end sheet)) ≡ t = rw length-drop e in
-        ap (λ (u : Bool). malformedIf u (gets (record { segments = segments; targets = itemsAt sheet m r }) (drop end sheet))) h
+      pub bytes-over : end < length sheet → sheetPlaces sheet ≡ fails BadSheet
+      bytes-over l = by-rest true (lt-ltb 0 (length sheet - end) (omega arith))
 
-    pub bytes-over : (m : ℕ) (r : List ℕ) (end : ℕ) → end < length sheet → afterTargets m r (drop end sheet) ≡ fails BadSheet
-    bytes-over m r end h = by-rest true m r end (lt-ltb 0 (length sheet - end) (omega arith))
-
-    pub targets-here : (m from end : ℕ) → from ≤ length sheet → length sheet ≤ end
-        → afterTargets m (drop from sheet) (drop end sheet) ≡ gets (record { segments = segments; targets = record { count = m; at = from } }) (drop end sheet)
-    targets-here m from end l h =
-        by-rest false m (drop from sheet) end (le-ltb 0 (length sheet - end) (omega arith))
-        ∙ ap (λ (t : Items). gets (record { segments = segments; targets = t }) (drop end sheet)) (items-place sheet m from l)
+      pub both-read : length sheet ≤ end → sheetPlaces sheet ≡ gets (record { segments = segments; targets = targets }) (drop end sheet)
+      both-read l =
+          by-rest false (le-ltb 0 (length sheet - end) (omega arith))
+          ∙ ap (λ (s : Items). gets (record { segments = s; targets = itemsIn sheet (second .value) }) (drop end sheet)) (first .means)
+          ∙ ap (λ (t : Items). gets (record { segments = segments; targets = t }) (drop end sheet)) (second .means)

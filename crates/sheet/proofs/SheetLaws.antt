@@ -1,5 +1,5 @@
--- A sheet that is read has its followers among its own segments.
-use mathlib.Core.Path.{_≡_, refl, ap, subst}
+-- What came of readings, one after the other; a sheet that is read has its followers among its own segments.
+use mathlib.Core.Path.{_≡_, refl, ap, subst, _∙_}
 use mathlib.Core.Bool.{Bool, true, false}
 use mathlib.Core.List.{List, [], _∷_}
 use Prim.Native.Nat.{ℕ, zero, suc, _≤_}
@@ -9,7 +9,7 @@ use lib.Dec.{ltb}
 use lib.ListN.{length}
 use Rattle.refusal.specs.declared.Refusal.{Refusal}
 use Rattle.refusal.specs.declared.Refusal.the-variants.{BadSheet}
-use Rattle.sheet.specs.Sheet.{SegmentRead, Sheet, Got, fails, gets, _andThen_, malformedIf, segment, repeated, sheetFrom, sheetGot, sheetOf}
+use Rattle.sheet.specs.Sheet.{SegmentRead, Got, fails, gets, _andThen_, malformedIf, count, Counted, Parts, counted, segment, target, repeated, sheetFrom, sheetIn, sheetOf}
 
 -- the followers are at most n
 pub data Refers (n : ℕ) : List SegmentRead → Type 0 where
@@ -35,6 +35,40 @@ came (gets a s) f b r e = record { value = a; rest = s; is = refl; after = e }
 pub formed : {A : Type 0} (t : Bool) (a b : A) (r s : List ℕ) → malformedIf t (gets a r) ≡ gets b s → (t ≡ false) × (a ≡ b)
 formed true a b r s e = absurd (refused-got BadSheet b s e)
 formed false a b r s e = (refl, cc)
+
+-- the readings of a count and of so many items
+pub record Reads {A : Type 0} (one : ℕ → List ℕ → Got A) (bs : List ℕ) (c : Counted A) (r : List ℕ) : Type 0 where
+  pub many : count bs ≡ gets (c .count) (c .from)
+  pub all : repeated (one (c .count)) (c .count) (c .from) ≡ gets (c .items) r
+
+reads : {A : Type 0} (one : ℕ → List ℕ → Got A) (bs : List ℕ) (c : Counted A) (r : List ℕ) → counted one bs ≡ gets c r → Reads one bs c r
+reads one bs c r e =
+    let a = came _ _ c r e in
+    let b = came _ _ c r (a .after) in
+    let w = b .after in
+    let q : b .rest ≡ r = cc in
+    subst (λ z. Reads one bs z r) (cc) (record { many = a .is; all = b .is ∙ ap (gets (b .value)) q })
+
+-- the readings of a sheet's parts, one after the other
+pub record ReadParts (bs : List ℕ) (p : Parts) : Type 0 where
+  pub rest : List ℕ
+  pub segments : Reads segment bs (p .segments) rest
+  pub end : List ℕ
+  pub targets : Reads (λ n. target) rest (p .targets) end
+
+pub read-parts : (bs : List ℕ) (p : Parts) (r : List ℕ) → sheetFrom bs ≡ gets p r → ReadParts bs p
+unfolding sheetFrom
+read-parts bs p r e =
+    let a = came _ _ p r e in
+    let b = came _ _ p r (a .after) in
+    let q = formed (ltb 0 (length (b .rest))) _ p _ r (b .after) in
+    subst (ReadParts bs) (q .1)
+    (record {
+      rest = a .rest;
+      segments = reads segment bs (a .value) (a .rest) (a .is);
+      end = b .rest;
+      targets = reads (λ n. target) (a .rest) (b .value) (b .rest) (b .is);
+    })
 
 segment-refers : (n : ℕ) (bs : List ℕ) (s : SegmentRead) (r : List ℕ) → segment n bs ≡ gets s r → s .follower ≤ n
 unfolding segment
@@ -63,26 +97,18 @@ repeated-refers n (suc k) bs ss r e =
     let q : a .value ∷ b .value ≡ ss = cc in
     subst (Right n (suc k)) q (record { refers = cons (segment-refers n bs (a .value) (a .rest) (a .is)) (i .refers); many = ap suc (i .many) })
 
-abbrev Own : Sheet → Type 0
-Own s = Refers (length (s .segments)) (s .segments)
+abbrev Own : List SegmentRead → Type 0
+Own ss = Refers (length ss) ss
 
-from-refers : (bs : List ℕ) (s : Sheet) (r : List ℕ) → sheetFrom bs ≡ gets s r → Own s
-unfolding sheetFrom
-from-refers bs s r e =
-    let a = came _ _ s r e in
-    let b = came _ _ s r (a .after) in
-    let c = came _ _ s r (b .after) in
-    let d = came _ _ s r (c .after) in
-    let i = repeated-refers (a .value) (a .value) (a .rest) (b .value) (b .rest) (b .is) in
-    let q = formed (ltb 0 (length (d .rest))) _ s _ r (d .after) in
-    let m = i .many in
-    let o : Refers (length (b .value)) (b .value) = rw m (i .refers) in
-    subst (λ (z : Sheet). Own z) (q .1) o
-
-pub sheet-refers : (bs : List ℕ) → Refers (length (sheetOf bs .segments)) (sheetOf bs .segments)
+pub sheet-refers : (bs : List ℕ) → Own (sheetOf bs .segments)
 unfolding sheetOf
-sheet-refers bs = by (sheetFrom bs) (from-refers bs)
+sheet-refers bs = by (sheetFrom bs) (read-parts bs)
   where
-    by : (g : Got Sheet) → ((s : Sheet) (r : List ℕ) → g ≡ gets s r → Own s) → Own (sheetGot g)
+    by : (g : Got Parts) → ((p : Parts) (r : List ℕ) → g ≡ gets p r → ReadParts bs p) → Own (sheetIn g .segments)
     by (fails c) f = nil
-    by (gets s r) f = f s r refl
+    by (gets p r) f =
+        let k = f p r refl in
+        let c = p .segments in
+        let i = repeated-refers (c .count) (c .count) (c .from) (c .items) (k .rest) (k .segments .all) in
+        let m = i .many in
+        rw m (i .refers)

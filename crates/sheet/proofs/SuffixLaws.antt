@@ -5,7 +5,7 @@ use mathlib.Core.List.{List, [], _∷_}
 use Prim.Native.Nat.{ℕ, zero, suc, _+_, _-_, _*_, _≤_}
 use native.Mathlib.Omega.{arith}
 use borrow.Author.Tests.{ltb-false}
-use lib.Dec.{ltb, leb}
+use lib.Dec.{ltb, eqb}
 use lib.Ieee.{Float}
 use lib.ListN.{length, take, drop, length-drop}
 use lib.Seq.{drop-drop}
@@ -20,7 +20,7 @@ pub record Suffix (r bs : List ℕ) : Type 0 where
   pub is : r ≡ drop by bs
   pub within : by ≤ length bs
 
-all : (bs : List ℕ) → Suffix bs bs
+pub all : (bs : List ℕ) → Suffix bs bs
 all bs = record { by = 0; is = refl; within = omega arith }
 
 cut : (n : ℕ) (bs : List ℕ) → n ≤ length bs → Suffix (drop n bs) bs
@@ -72,8 +72,8 @@ groups-leaves (suc k) first [] = nothing
 groups-leaves (suc k) first (b ∷ bs) = by (ltb b 128) (groups-leaves k false bs)
   where
     by : (t : Bool) → Leaves bs (groups k false bs)
-        → Leaves {A = ℕ} (b ∷ bs) (elim t [ true ↦ malformedIf (not first && leb b 0) (gets b bs) | false ↦ groups k false bs andThen (λ m r. gets (b - 128 + 128 * m) r) ])
-    by true l = leaves-if (not first && leb b 0) (λ e. end (one b bs))
+        → Leaves {A = ℕ} (b ∷ bs) (elim t [ true ↦ malformedIf (not first && eqb b 0) (gets b bs) | false ↦ groups k false bs andThen (λ m r. gets (b - 128 + 128 * m) r) ])
+    by true l = leaves-if (not first && eqb b 0) (λ e. end (one b bs))
     by false l = leaves-then (λ m r. gets (b - 128 + 128 * m) r) (leaves-trans (one b bs) l) (λ m r. end (all r))
 
 number-leaves : (bs : List ℕ) → Leaves bs (number bs)

@@ -16,7 +16,7 @@ use Rattle.base.specs.Words.{signed32}
 use Rattle.base.proofs.ByteLaws.{littleEndian-drop}
 use Rattle.refusal.specs.declared.Refusal.the-variants.{BadSheet, NotFinite}
 use Rattle.sheet.specs.Sheet.{fails, gets, malformedIf, isFinite, finite, valueOf, value}
-use Rattle.sheet.specs.Answers.{Says, refuses, reads, Answers, valueSays, floatRead}
+use Rattle.sheet.specs.Answers.{Said, refuses, reads, Agrees, valueSays, floatRead}
 use Rattle.sheet.specs.declared.Value.{Value}
 use Rattle.sheet.specs.declared.Value.the-variants.{Int, Float as FloatValue, Absent}
 use Rattle.sheet.specs.declared.GotValue.the-variants as answer
@@ -70,18 +70,19 @@ cut (suc (suc k)) bs h l = absurd (omega arith)
 
 -- a float that was read is a float, or not finite
 float-read : {sheet : List ℕ} (x : Float) (next : ℕ) → next ≤ length sheet
-    → Answers sheet (λ (v : Value). v) (λ v. Unit) (valueSays (pick (isFinite x) (answer.Read (FloatValue x) next) answer.NotFinite)) (finite x (drop next sheet))
+    → Agrees sheet (λ (v : Value). v) (λ v. Unit) (valueSays (pick (isFinite x) (answer.Read (FloatValue x) next) (answer.Refused NotFinite))) (finite x (drop next sheet))
 unfolding finite
 float-read {sheet} x next h = go (isFinite x)
   where
-    go : (t : Bool) → Answers sheet (λ (v : Value). v) (λ v. Unit) (valueSays (pick t (answer.Read (FloatValue x) next) answer.NotFinite)) (pick t (gets (FloatValue x) (drop next sheet)) (fails NotFinite))
+    go : (t : Bool) → Agrees sheet (λ (v : Value). v) (λ v. Unit) (valueSays (pick t (answer.Read (FloatValue x) next) (answer.Refused NotFinite)))
+        (pick t (gets (FloatValue x) (drop next sheet)) (fails NotFinite))
     go true = read refl h tt
     go false = refused refl
 
 -- what is answered at a place
 module _ (sheet : List ℕ) (at : ℕ) where
-  abbrev pub Is : Says Value → Type 0
-  Is says = Answers sheet (λ v. v) (λ v. Unit) says (value (drop at sheet))
+  abbrev pub Is : Said Value → Type 0
+  Is says = Agrees sheet (λ v. v) (λ v. Unit) says (value (drop at sheet))
 
   pub value-end : length sheet ≤ at → Is (refuses BadSheet)
   unfolding value

@@ -7,15 +7,15 @@ use native.Mathlib.Omega.{arith}
 use lib.ListN.{length, drop}
 use Rattle.refusal.specs.declared.Refusal.{Refusal}
 use Rattle.sheet.specs.Sheet.{Got, gets, repeated}
-use Rattle.sheet.specs.Answers.{Says, refuses, reads, Answers}
+use Rattle.sheet.specs.Answers.{Said, refuses, reads, Agrees}
 use Rattle.sheet.specs.Places.{isRead}
 use Rattle.sheet.proofs.SheetLaws.{came}
 
 -- where something is read, no refusal is answered
-pub not-refused : {A B : Type 0} {sheet : List ℕ} {meaning : A → B} {P : A → Type 0} {says : Says A} {g : Got B} {r : Refusal}
-    → Answers sheet meaning P says g → says ≡ refuses r → isRead g ≡ true → ⊥
+pub not-refused : {A B : Type 0} {sheet : List ℕ} {meaning : A → B} {P : A → Type 0} {says : Said A} {g : Got B} {r : Refusal}
+    → Agrees sheet meaning P says g → says ≡ refuses r → isRead g ≡ true → ⊥
 not-refused i e h =
-    let f = (rw e at i) .is in
+    let f = (rw e at i) .same in
     let z : false ≡ true = ap isRead f ∙ h in
     true≢false (sym z)
 
@@ -61,10 +61,10 @@ module _ {B : Type 0} (one : List ℕ → Got B) (sheet : List ℕ) where
 
   -- what is answered there is the first of them, and the others are ahead of the next place
   pub ahead-step : {A : Type 0} {meaning : A → B} {P : A → Type 0} (k at : ℕ) (xs : List B) (a : A) (next : ℕ) → (k ≡ 0 → ⊥) → Ahead k at xs
-      → Answers sheet meaning P (reads a next) (one (drop at sheet)) → Step k next (meaning a) xs
+      → Agrees sheet meaning P (reads a next) (one (drop at sheet)) → Step k next (meaning a) xs
   ahead-step {A} {meaning} k at xs a next n h i =
       let p = parted k at xs n h in
-      let g = i .is in
+      let g = i .same in
       let q = p .is in
       let x : meaning a ≡ p .item = cc in
       let d : drop next sheet ≡ p .after = cc in
@@ -90,7 +90,7 @@ module _ {B : Type 0} (one : List ℕ → Got B) (sheet : List ℕ) where
   -- items answered one after the other, from a place on
   pub data Walk {A : Type 0} (meaning : A → B) (P : A → Type 0) : ℕ → List B → Type 0 where
     stop : {at : ℕ} → Walk meaning P at []
-    step : {at next : ℕ} {a : A} {xs : List B} → Answers sheet meaning P (reads a next) (one (drop at sheet)) → Walk meaning P next xs → Walk meaning P at (meaning a ∷ xs)
+    step : {at next : ℕ} {a : A} {xs : List B} → Agrees sheet meaning P (reads a next) (one (drop at sheet)) → Walk meaning P next xs → Walk meaning P at (meaning a ∷ xs)
 
   -- as many of them as were read are those that were read
   pub walk-yields : {A : Type 0} {meaning : A → B} {P : A → Type 0} (k at : ℕ) (xs ys : List B) → Ahead k at xs → Walk meaning P at ys → length ys ≡ k → ys ≡ xs

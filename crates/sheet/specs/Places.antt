@@ -1,33 +1,31 @@
--- Where a sheet has its segments and its targets: the reading of `sheetFrom`, with places for what was read.
+-- Where the reading of a sheet (`sheetFrom`) met its segments and its targets, and the answer that says so.
 use mathlib.Core.Bool.{Bool, true, false}
 use mathlib.Core.List.{List}
 use mathlib.Core.Option.{Option, none, some}
 use Prim.Native.Nat.{ℕ, _-_}
-use lib.Dec.{ltb}
 use lib.ListN.{length}
 use Rattle.refusal.specs.declared.Refusal.{Refusal}
-use Rattle.sheet.specs.Sheet.{Got, fails, gets, _andThen_, malformedIf, count, segment, target, repeated}
+use Rattle.refusal.specs.Number.{numberOf}
+use Rattle.sheet.specs.Sheet.{Got, fails, gets, Counted, Parts, sheetFrom}
 use Rattle.sheet.specs.declared.Items.{Items}
 use Rattle.sheet.specs.declared.Places.{Places}
 use Rattle.sheet.specs.declared.SheetAnswer.{SheetAnswer}
 use Rattle.sheet.specs.declared.SheetAnswer.the-variants.{Refused, Read}
 
--- so many items, the first at the front of the bytes that are left of a sheet
-abbrev pub itemsAt : List ℕ → ℕ → List ℕ → Items
-itemsAt sheet n rest = record { count = n; at = length sheet - length rest }
+-- the reading with another form of what was read
+abbrev pub mapped : {A B : Type 0} → (A → B) → Got A → Got B
+mapped f (fails r) = fails r
+mapped f (gets x bs) = gets (f x) bs
 
--- from the target count on
-unfoldable pub placesAfter : List ℕ → Items → List ℕ → Got Places
-placesAfter sheet segments bs =
-    count bs andThen λ m r.
-    repeated target m r andThen λ targets r₁.
-    malformedIf (ltb 0 (length r₁)) (gets (record { segments = segments; targets = itemsAt sheet m r }) r₁)
+-- how many, and the place in the sheet of the first
+abbrev pub itemsIn : {A : Type 0} → List ℕ → Counted A → Items
+itemsIn sheet xs = record { count = xs .count; at = length sheet - length (xs .from) }
+
+abbrev pub placesIn : List ℕ → Parts → Places
+placesIn sheet p = record { segments = itemsIn sheet (p .segments); targets = itemsIn sheet (p .targets) }
 
 unfoldable pub sheetPlaces : List ℕ → Got Places
-sheetPlaces sheet =
-    count sheet andThen λ n r.
-    repeated (segment n) n r andThen λ segments r₁.
-    placesAfter sheet (itemsAt sheet n r) r₁
+sheetPlaces sheet = mapped (placesIn sheet) (sheetFrom sheet)
 
 abbrev pub answerIn : Got Places → SheetAnswer
 answerIn (fails r) = Refused r
@@ -36,6 +34,11 @@ answerIn (gets p bs) = Read p
 abbrev pub refusalOf : SheetAnswer → Option Refusal
 refusalOf (Refused r) = some r
 refusalOf (Read p) = none
+
+-- the number of an answer: 0 where the sheet was read
+abbrev pub sheetNumber : SheetAnswer → ℕ
+sheetNumber (Refused r) = numberOf r
+sheetNumber (Read p) = 0
 
 -- something was read
 abbrev pub isRead : {A : Type 0} → Got A → Bool

@@ -3,7 +3,7 @@ use mathlib.Core.Bool.{Bool, true, false, _&&_, _||_, not}
 use mathlib.Core.List.{List, [], _∷_}
 use mathlib.Core.Option.{Option, none, some}
 use Prim.Native.Nat.{ℕ, zero, suc, _+_, _-_, _*_}
-use lib.Dec.{ltb, leb}
+use lib.Dec.{ltb, eqb}
 use lib.IntN.{pos}
 use lib.ListN.{length, take, drop}
 use lib.Ieee.{Float, nan, inf, fin, binary32, ofBits, ofInt}
@@ -43,14 +43,14 @@ abbrev pub malformedIf : {A : Type 0} → Bool → Got A → Got A
 malformedIf true g = fails BadSheet
 malformedIf false g = g
 
--- 'groups of seven bits, lowest first, bit 7 set on all but the last, at most five groups, shortest form': at most n groups, and `first`
--- says whether this is the first; the last of several is not 0, else a shorter form had been there
+-- 'groups of seven bits, lowest first, bit 7 set on all but the last, at most five groups, shortest form': AC 02 is 44 + 128 * 2 = 300;
+-- 80 00 is a longer form of 0, so a last group of 0 must be the first. At most n groups follow; `first` says that none came before.
 unfoldable pub groups : ℕ → Bool → List ℕ → Got ℕ
 groups zero first bs = fails BadSheet
 groups (suc n) first [] = fails BadSheet
 groups (suc n) first (b ∷ bs) =
     elim (ltb b 128) [
-      | true ↦ malformedIf (not first && leb b 0) (gets b bs)
+      | true ↦ malformedIf (not first && eqb b 0) (gets b bs)
       | false ↦ groups n false bs andThen (λ m r. gets (b - 128 + 128 * m) r)
     ]
 
@@ -98,13 +98,16 @@ asF32 Absent = fin false 0 (pos 0)
 
 -- ---- the sheet
 
--- 'name length, name, end value, follower'; a follower above the segment count n gives 8
+-- 'end value, follower', after the name nm; a follower above the segment count n gives 8
+abbrev pub segmentAfter : ℕ → List ℕ → List ℕ → Got SegmentRead
+segmentAfter n nm bs =
+    value bs andThen λ end r.
+    number r andThen λ follower r₁.
+    malformedIf (ltb n follower) (gets (record { name = nm; end = end; follower = follower }) r₁)
+
+-- 'name length, name, end value, follower'
 unfoldable pub segment : ℕ → List ℕ → Got SegmentRead
-segment n bs =
-    name bs andThen λ nm r.
-    value r andThen λ end r₁.
-    number r₁ andThen λ follower r₂.
-    malformedIf (ltb n follower) (gets (record { name = nm; end = end; follower = follower }) r₂)
+segment n bs = name bs andThen λ nm r. segmentAfter n nm r
 
 -- 'pos value, f0 value'
 unfoldable pub target : List ℕ → Got Target
@@ -118,26 +121,41 @@ unfoldable pub repeated : {A : Type 0} → (List ℕ → Got A) → ℕ → List
 repeated one zero bs = gets [] bs
 repeated one (suc n) bs = one bs andThen λ x r. repeated one n r andThen λ xs r₁. gets (x ∷ xs) r₁
 
--- 'Segment count; per segment ..; then target count; per target ..'; bytes left over give 8
-unfoldable pub sheetFrom : List ℕ → Got Sheet
-sheetFrom bs =
+-- segments, or targets, as read: how many, the bytes from the first of them on, and each
+pub record Counted (A : Type 0) : Type 0 where
+  pub count : ℕ
+  pub from : List ℕ
+  pub items : List A
+
+-- a count n, then n times what `one n` reads
+abbrev pub counted : {A : Type 0} → (ℕ → List ℕ → Got A) → List ℕ → Got (Counted A)
+counted one bs =
     count bs andThen λ n r.
-    repeated (segment n) n r andThen λ segments r₁.
-    count r₁ andThen λ m r₂.
-    repeated target m r₂ andThen λ targets r₃.
-    malformedIf (ltb 0 (length r₃)) (gets (record { segments = segments; targets = targets }) r₃)
+    repeated (one n) n r andThen λ xs r₁.
+    gets (record { count = n; from = r; items = xs }) r₁
+
+pub record Parts : Type 0 where
+  pub segments : Counted SegmentRead
+  pub targets : Counted Target
+
+-- 'Segment count; per segment ..; then target count; per target ..'; bytes left over give 8
+unfoldable pub sheetFrom : List ℕ → Got Parts
+sheetFrom bs =
+    counted segment bs andThen λ segments r.
+    counted (λ n. target) r andThen λ targets r₁.
+    malformedIf (ltb 0 (length r₁)) (gets (record { segments = segments; targets = targets }) r₁)
 
 abbrev pub refusalIn : {A : Type 0} → Got A → Option Refusal
 refusalIn (fails r) = some r
 refusalIn (gets x bs) = none
 
-abbrev pub sheetGot : Got Sheet → Sheet
-sheetGot (fails r) = record { segments = []; targets = [] }
-sheetGot (gets s bs) = s
+abbrev pub sheetIn : Got Parts → Sheet
+sheetIn (fails r) = record { segments = []; targets = [] }
+sheetIn (gets p bs) = record { segments = p .segments .items; targets = p .targets .items }
 
 unfoldable pub sheetRefusal : List ℕ → Option Refusal
 sheetRefusal bs = refusalIn (sheetFrom bs)
 
 -- the sheet that was read; an empty one where it is refused
 unfoldable pub sheetOf : List ℕ → Sheet
-sheetOf bs = sheetGot (sheetFrom bs)
+sheetOf bs = sheetIn (sheetFrom bs)

@@ -4,10 +4,12 @@ ghost use mathlib.Core.Path.{_≡_};
 ghost use mathlib.Core.Bool.{true};
 ghost use Prim.Native.Nat.{_+_, _^_, _≤_};
 ghost use lib.ListN.{length, drop};
+ghost use Rattle.refusal.specs.Number.{answerOf};
 ghost use Rattle.sheet.specs.Sheet as sheets;
-ghost use Rattle.sheet.specs.Answers.{reads, NumberIs, NameIs, ValueIs, SegmentSaid, SegmentIs, TargetSaid, TargetIs, SkippedIs, bytesAt, ended, floatRead, segmentAfter};
+ghost use Rattle.sheet.specs.Answers.{reads, NumberIs, NameIs, ValueIs, SegmentSaid, SegmentIs};
+ghost use Rattle.sheet.specs.Answers.{TargetSaid, TargetIs, ItemsIs, bytesAt, floatRead, standing};
 ghost use Rattle.sheet.specs.Followers.{nameOf};
-ghost use Rattle.sheet.specs.Places.{answerIn, isRead, placesAfter, refusalOf, sheetPlaces};
+ghost use Rattle.sheet.specs.Places.{answerIn, isRead, itemsIn, mapped, sheetNumber, sheetPlaces};
 use base::Span;
 use refusal::Refusal;
 
@@ -32,49 +34,48 @@ pub struct Target {
     pub f0: Value,
 }
 
+// What the reader answers at a place: why it is refused, or what was read and the place after it.
+
 // A number that was read, and the place after it.
 enum GotNumber {
-    Malformed,
+    Refused(Refusal),
     Read(usize, usize),
 }
 
 // Where a name stands that was read; the place after it is its end.
 enum GotName {
-    Malformed,
+    Refused(Refusal),
     Read(Span),
 }
 
 // A value that was read, and the place after it.
 enum GotValue {
-    Malformed,
-    NotFinite,
+    Refused(Refusal),
     Read(Value, usize),
 }
 
 // A segment that was read, and the place after it.
 enum GotSegment {
-    Malformed,
-    NotFinite,
+    Refused(Refusal),
     Read(Segment, usize),
 }
 
 // A target that was read, and the place after it.
 enum GotTarget {
-    Malformed,
-    NotFinite,
-    Read(Target, usize),
-}
-
-// The place after some segments or targets, or why they are refused.
-enum Skipped {
     Refused(Refusal),
-    To(usize),
+    Read(Target, usize),
 }
 
 // Segments, or targets: how many, and the place of the first.
 pub struct Items {
     pub count: usize,
     pub at: usize,
+}
+
+// Segments, or targets, that were read, and the place after them.
+enum GotItems {
+    Refused(Refusal),
+    Read(Items, usize),
 }
 
 // Where a sheet has its segments and its targets.
@@ -122,10 +123,10 @@ fn read_groups(sheet: &[u8], at: usize, left: usize, first: bool) -> GotNumber
         ⌝ }
 {
     if left == 0 {
-        return GotNumber::Malformed;
+        return GotNumber::Refused(Refusal::BadSheet);
     }
     if sheet.len() <= at {
-        return GotNumber::Malformed;
+        return GotNumber::Refused(Refusal::BadSheet);
     }
     let group = sheet[at] as usize;
     if group < 128 {
@@ -133,12 +134,12 @@ fn read_groups(sheet: &[u8], at: usize, left: usize, first: bool) -> GotNumber
             return GotNumber::Read(group, at + 1);
         }
         if group == 0 {
-            return GotNumber::Malformed;
+            return GotNumber::Refused(Refusal::BadSheet);
         }
         return GotNumber::Read(group, at + 1);
     }
     match read_groups(sheet, at + 1, left - 1, false) {
-        GotNumber::Malformed => GotNumber::Malformed,
+        GotNumber::Refused(cause) => GotNumber::Refused(cause),
         GotNumber::Read(high, next) => GotNumber::Read(group - 128 + 128 * high, next),
     }
 }
@@ -155,10 +156,10 @@ fn read_count(sheet: &[u8], at: usize) -> GotNumber
     ensures { λ r. ⌜ NumberIs (now (sheet .entry)) 4097 r (sheets.count (drop at (now (sheet .entry)))) ⌝ }
 {
     match read_number(sheet, at) {
-        GotNumber::Malformed => GotNumber::Malformed,
+        GotNumber::Refused(cause) => GotNumber::Refused(cause),
         GotNumber::Read(n, next) => {
             if 4096 < n {
-                return GotNumber::Malformed;
+                return GotNumber::Refused(Refusal::BadSheet);
             }
             GotNumber::Read(n, next)
         }
@@ -187,19 +188,19 @@ fn read_name(sheet: &[u8], at: usize) -> GotName
     ensures { λ r. ⌜ NameIs (now (sheet .entry)) r (sheets.name (drop at (now (sheet .entry)))) ⌝ }
 {
     match read_number(sheet, at) {
-        GotNumber::Malformed => GotName::Malformed,
+        GotNumber::Refused(cause) => GotName::Refused(cause),
         GotNumber::Read(len, from) => {
             if 32 < len {
-                return GotName::Malformed;
+                return GotName::Refused(Refusal::BadSheet);
             }
             let end = from + len;
             if sheet.len() < end {
-                return GotName::Malformed;
+                return GotName::Refused(Refusal::BadSheet);
             }
             if is_printable(&sheet[from..end]) {
                 return GotName::Read(Span { at: from, len: len });
             }
-            GotName::Malformed
+            GotName::Refused(Refusal::BadSheet)
         }
     }
 }
@@ -212,7 +213,7 @@ fn float_value(word: u32, next: usize) -> GotValue
     if word % 0x8000_0000 < 0x7F80_0000 {
         return GotValue::Read(Value::Float(float::f32_from_word(word)), next);
     }
-    GotValue::NotFinite
+    GotValue::Refused(Refusal::NotFinite)
 }
 
 // A value: kind 0 and an i32, 1 and the bits of an f32, or 2 alone.
@@ -220,7 +221,7 @@ fn read_value(sheet: &[u8], at: usize) -> GotValue
     ensures { λ r. ⌜ ValueIs (now (sheet .entry)) r (sheets.value (drop at (now (sheet .entry)))) ⌝ }
 {
     if sheet.len() <= at {
-        return GotValue::Malformed;
+        return GotValue::Refused(Refusal::BadSheet);
     }
     let kind = sheet[at];
     let from = at + 1;
@@ -228,10 +229,10 @@ fn read_value(sheet: &[u8], at: usize) -> GotValue
         return GotValue::Read(Value::Absent, from);
     }
     if 2 < kind {
-        return GotValue::Malformed;
+        return GotValue::Refused(Refusal::BadSheet);
     }
     if sheet.len() - from < 4 {
-        return GotValue::Malformed;
+        return GotValue::Refused(Refusal::BadSheet);
     }
     let word = base::bytes::read_u32(sheet, from);
     if kind == 0 {
@@ -246,18 +247,18 @@ fn read_after_name(sheet: &[u8], name: Span, count: usize) -> GotSegment
     ensures { λ r.
         ⌜
         SegmentIs (now (sheet .entry)) count r
-        (segmentAfter count (bytesAt (now (sheet .entry)) name) (drop (name .at + name .len) (now (sheet .entry))))
+        (sheets.segmentAfter count (bytesAt (now (sheet .entry)) name)
+        (drop (name .at + name .len) (now (sheet .entry))))
         ⌝ }
 {
     let at = name.at + name.len;
     match read_value(sheet, at) {
-        GotValue::Malformed => GotSegment::Malformed,
-        GotValue::NotFinite => GotSegment::NotFinite,
+        GotValue::Refused(cause) => GotSegment::Refused(cause),
         GotValue::Read(end, place) => match read_number(sheet, place) {
-            GotNumber::Malformed => GotSegment::Malformed,
+            GotNumber::Refused(cause) => GotSegment::Refused(cause),
             GotNumber::Read(follower, next) => {
                 if count < follower {
-                    return GotSegment::Malformed;
+                    return GotSegment::Refused(Refusal::BadSheet);
                 }
                 GotSegment::Read(
                     Segment {
@@ -280,7 +281,7 @@ fn read_segment(sheet: &[u8], at: usize, count: usize) -> GotSegment
         ⌝ }
 {
     match read_name(sheet, at) {
-        GotName::Malformed => GotSegment::Malformed,
+        GotName::Refused(cause) => GotSegment::Refused(cause),
         GotName::Read(name) => read_after_name(sheet, name, count),
     }
 }
@@ -290,79 +291,93 @@ fn read_target(sheet: &[u8], at: usize) -> GotTarget
     ensures { λ r. ⌜ TargetIs (now (sheet .entry)) r (sheets.target (drop at (now (sheet .entry)))) ⌝ }
 {
     match read_value(sheet, at) {
-        GotValue::Malformed => GotTarget::Malformed,
-        GotValue::NotFinite => GotTarget::NotFinite,
+        GotValue::Refused(cause) => GotTarget::Refused(cause),
         GotValue::Read(pos, place) => match read_value(sheet, place) {
-            GotValue::Malformed => GotTarget::Malformed,
-            GotValue::NotFinite => GotTarget::NotFinite,
+            GotValue::Refused(cause) => GotTarget::Refused(cause),
             GotValue::Read(f0, next) => GotTarget::Read(Target { pos: pos, f0: f0 }, next),
         },
     }
 }
 
 // As many segments as the sheet has, from a place on.
-fn skip_segments(sheet: &[u8], at: usize, count: usize) -> Skipped
+fn skip_segments(sheet: &[u8], at: usize, count: usize) -> GotItems
     requires { ⌜ at ≤ length (now sheet) ⌝ }
     ensures { λ r.
         ⌜
-        SkippedIs (now (sheet .entry)) r
-        (ended (sheets.repeated (sheets.segment count) count (drop at (now (sheet .entry)))))
+        ItemsIs (now (sheet .entry)) r
+        (standing count at (sheets.repeated (sheets.segment count) count (drop at (now (sheet .entry)))))
         ⌝ }
 {
     let mut place = at;
     let mut left = count;
     while 0 < left {
         match read_segment(sheet, place, count) {
-            GotSegment::Malformed => return Skipped::Refused(Refusal::BadSheet),
-            GotSegment::NotFinite => return Skipped::Refused(Refusal::NotFinite),
+            GotSegment::Refused(cause) => return GotItems::Refused(cause),
             GotSegment::Read(_, next) => place = next,
         }
         left -= 1;
     }
-    Skipped::To(place)
+    GotItems::Read(
+        Items {
+            count: count,
+            at: at,
+        },
+        place,
+    )
 }
 
 // So many targets, from a place on.
-fn skip_targets(sheet: &[u8], at: usize, count: usize) -> Skipped
+fn skip_targets(sheet: &[u8], at: usize, count: usize) -> GotItems
     requires { ⌜ at ≤ length (now sheet) ⌝ }
     ensures { λ r.
-        ⌜ SkippedIs (now (sheet .entry)) r (ended (sheets.repeated sheets.target count (drop at (now (sheet .entry))))) ⌝ }
+        ⌜
+        ItemsIs (now (sheet .entry)) r
+        (standing count at (sheets.repeated sheets.target count (drop at (now (sheet .entry)))))
+        ⌝ }
 {
     let mut place = at;
     let mut left = count;
     while 0 < left {
         match read_target(sheet, place) {
-            GotTarget::Malformed => return Skipped::Refused(Refusal::BadSheet),
-            GotTarget::NotFinite => return Skipped::Refused(Refusal::NotFinite),
+            GotTarget::Refused(cause) => return GotItems::Refused(cause),
             GotTarget::Read(_, next) => place = next,
         }
         left -= 1;
     }
-    Skipped::To(place)
+    GotItems::Read(
+        Items {
+            count: count,
+            at: at,
+        },
+        place,
+    )
 }
 
-// The rest of a sheet, from its target count on.
-fn read_after_segments(sheet: &[u8], at: usize, segments: Items) -> SheetAnswer
+// The segments, after their count.
+fn read_segments(sheet: &[u8], at: usize) -> GotItems
     ensures { λ r.
-        ⌜ r ≡ answerIn (placesAfter (now (sheet .entry)) segments (drop at (now (sheet .entry)))) ⌝ }
+        ⌜
+        ItemsIs (now (sheet .entry)) r
+        (mapped (itemsIn (now (sheet .entry))) (sheets.counted sheets.segment (drop at (now (sheet .entry)))))
+        ⌝ }
 {
     match read_count(sheet, at) {
-        GotNumber::Malformed => SheetAnswer::Refused(Refusal::BadSheet),
-        GotNumber::Read(count, from) => match skip_targets(sheet, from, count) {
-            Skipped::Refused(cause) => SheetAnswer::Refused(cause),
-            Skipped::To(end) => {
-                if end < sheet.len() {
-                    return SheetAnswer::Refused(Refusal::BadSheet);
-                }
-                SheetAnswer::Read(Places {
-                    segments: segments,
-                    targets: Items {
-                        count: count,
-                        at: from,
-                    },
-                })
-            }
-        },
+        GotNumber::Refused(cause) => GotItems::Refused(cause),
+        GotNumber::Read(count, from) => skip_segments(sheet, from, count),
+    }
+}
+
+// The targets, after their count.
+fn read_targets(sheet: &[u8], at: usize) -> GotItems
+    ensures { λ r.
+        ⌜
+        ItemsIs (now (sheet .entry)) r
+        (mapped (itemsIn (now (sheet .entry))) (sheets.counted (λ n. sheets.target) (drop at (now (sheet .entry)))))
+        ⌝ }
+{
+    match read_count(sheet, at) {
+        GotNumber::Refused(cause) => GotItems::Refused(cause),
+        GotNumber::Read(count, from) => skip_targets(sheet, from, count),
     }
 }
 
@@ -371,19 +386,21 @@ pub fn read_sheet(sheet: &[u8]) -> SheetAnswer
     ensures { λ r.
         ⌜
         (r ≡ answerIn (sheetPlaces (now (sheet .entry)))) ×
-        (refusalOf r ≡ sheets.sheetRefusal (now (sheet .entry)))
+        (sheetNumber r ≡ answerOf (sheets.sheetRefusal (now (sheet .entry))))
         ⌝ }
 {
-    match read_count(sheet, 0) {
-        GotNumber::Malformed => SheetAnswer::Refused(Refusal::BadSheet),
-        GotNumber::Read(count, from) => match skip_segments(sheet, from, count) {
-            Skipped::Refused(cause) => SheetAnswer::Refused(cause),
-            Skipped::To(next) => {
-                let segments = Items {
-                    count: count,
-                    at: from,
-                };
-                read_after_segments(sheet, next, segments)
+    match read_segments(sheet, 0) {
+        GotItems::Refused(cause) => SheetAnswer::Refused(cause),
+        GotItems::Read(segments, next) => match read_targets(sheet, next) {
+            GotItems::Refused(cause) => SheetAnswer::Refused(cause),
+            GotItems::Read(targets, end) => {
+                if end < sheet.len() {
+                    return SheetAnswer::Refused(Refusal::BadSheet);
+                }
+                SheetAnswer::Read(Places {
+                    segments: segments,
+                    targets: targets,
+                })
             }
         },
     }
@@ -422,8 +439,7 @@ pub fn segment_at(sheet: &[u8], at: usize, count: usize) -> SegmentStep
         ⌝ }
 {
     match read_segment(sheet, at, count) {
-        GotSegment::Malformed => no_segment(at),
-        GotSegment::NotFinite => no_segment(at),
+        GotSegment::Refused(_) => no_segment(at),
         GotSegment::Read(segment, next) => SegmentStep {
             segment: segment,
             next: next,
@@ -440,8 +456,7 @@ pub fn target_at(sheet: &[u8], at: usize) -> TargetStep
         ⌝ }
 {
     match read_target(sheet, at) {
-        GotTarget::Malformed => no_target(at),
-        GotTarget::NotFinite => no_target(at),
+        GotTarget::Refused(_) => no_target(at),
         GotTarget::Read(target, next) => TargetStep {
             target: target,
             next: next,

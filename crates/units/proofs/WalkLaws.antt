@@ -52,7 +52,7 @@ segment-named : (sheet : List ℕ) (count at next : ℕ) (s : Segment) → Segme
 segment-named sheet count at next s i =
     let w = i .within .1 .0 in
     let l = length-part sheet (s .name .at) (s .name .len) w in
-    let h = segment-short count (drop at sheet) (segmentRead sheet s) (drop next sheet) (sym (i .is)) in
+    let h = segment-short count (drop at sheet) (segmentRead sheet s) (drop next sheet) (sym (i .same)) in
     record { within = w; short = omega arith }
 
 -- ---- one step of the walk

@@ -40,9 +40,9 @@ groups-cast-group :
     (t : ℕ) → groups-lts.Need-cast-group (groups-below t, groups.Post) (groups-at t) groups.Post
 groups-cast-group t c = omega (arith, c .shared-slice-known2 .given (c .before .before .before .before .args .at))
 
-groups-add-t13 :
-    (t : ℕ) → groups-lts.Need-add-t13 (groups-below t, groups.Post) (groups-at t) groups.Post
-groups-add-t13 t c = search needs
+groups-add-t16 :
+    (t : ℕ) → groups-lts.Need-add-t16 (groups-below t, groups.Post) (groups-at t) groups.Post
+groups-add-t16 t c = search needs
 
 groups-returns-3 :
     (t : ℕ) → groups-lts.Need-returns-3 (groups-below t, groups.Post) (groups-at t) groups.Post
@@ -58,9 +58,9 @@ groups-returns-4 t c =
     let a = k .before .before .before .before .args in
     groups-zero (a .sheet .now) (a .at) (a .left) (a .first) (k .before .before .if1 .left) (omega arith) (c .before .if4 .left) (c .if5 .taken)
 
-groups-add-t14 :
-    (t : ℕ) → groups-lts.Need-add-t14 (groups-below t, groups.Post) (groups-at t) groups.Post
-groups-add-t14 t c = search needs
+groups-add-t18 :
+    (t : ℕ) → groups-lts.Need-add-t18 (groups-below t, groups.Post) (groups-at t) groups.Post
+groups-add-t18 t c = search needs
 
 groups-returns-5 :
     (t : ℕ) → groups-lts.Need-returns-5 (groups-below t, groups.Post) (groups-at t) groups.Post
@@ -82,26 +82,26 @@ groups-read-groups-requires :
     groups-lts.Need-read-groups-requires (groups-below t, groups.Post) (groups-at t) groups.Post
 groups-read-groups-requires t c κs = (omega arith, omega arith)
 
-groups-enum-told :
-    (t : ℕ) → groups-lts.Need-enum-told (groups-below t, groups.Post) (groups-at t) groups.Post
-groups-enum-told t c = search needs
+groups-enum-known-cause :
+    (t : ℕ) → groups-lts.Need-enum-known-cause (groups-below t, groups.Post) (groups-at t) groups.Post
+groups-enum-known-cause t c = search needs
 
 groups-enum-known-high :
     (t : ℕ) →
     groups-lts.Need-enum-known-high (groups-below t, groups.Post) (groups-at t) groups.Post
 groups-enum-known-high t c = search needs
 
-groups-mul-t19 :
-    (t : ℕ) → groups-lts.Need-mul-t19 (groups-below t, groups.Post) (groups-at t) groups.Post
-groups-mul-t19 t c =
+groups-mul-t23 :
+    (t : ℕ) → groups-lts.Need-mul-t23 (groups-below t, groups.Post) (groups-at t) groups.Post
+groups-mul-t23 t c =
     let k = c .before .before .before .before .before in
     let a = k .before .before .before .before .args in
     let m = (read-within (c .before .before .before .read-groups .ensures) (ap numberSays (c .before .high .given .1))) .1 in
     omega (arith, m, power-small (a .left - 1) (omega arith))
 
-groups-add-t20 :
-    (t : ℕ) → groups-lts.Need-add-t20 (groups-below t, groups.Post) (groups-at t) groups.Post
-groups-add-t20 t c =
+groups-add-t24 :
+    (t : ℕ) → groups-lts.Need-add-t24 (groups-below t, groups.Post) (groups-at t) groups.Post
+groups-add-t24 t c =
     let k = c .before .before .before .before .before in
     let a = k .before .before .before .before .args in
     let m = (read-within (c .before .before .before .read-groups .ensures) (ap numberSays (c .before .high .given .1))) .1 in
@@ -110,9 +110,10 @@ groups-add-t20 t c =
 groups-returns-6 :
     (t : ℕ) → groups-lts.Need-returns-6 (groups-below t, groups.Post) (groups-at t) groups.Post
 groups-returns-6 t c =
-    let k = c .before .before .before .before in
+    let k = c .before .before .before .before .before in
     let a = k .before .before .before .before .args in
-    groups-cut (a .sheet .now) (a .at) (a .left) (a .first) (k .before .before .if1 .left) (omega arith) (c .before .before .before .if3 .left) _ (c .before .before .read-groups .ensures) (c .enum-told .given .1)
+    groups-cut (a .sheet .now) (a .at) (a .left) (a .first) (k .before .before .if1 .left) (omega arith)
+    (c .before .before .before .before .if3 .left) _ (c .before .before .before .read-groups .ensures) _ (c .before .cause .given .1)
 
 groups-returns-7 :
     (t : ℕ) → groups-lts.Need-returns-7 (groups-below t, groups.Post) (groups-at t) groups.Post
@@ -120,7 +121,8 @@ groups-returns-7 t c =
     let k = c .before .before .before .before .before in
     let a = k .before .before .before .before .args in
     let s = k .shared-slice-known2 .given (a .at) in
-    groups-more (a .sheet .now) (a .at) (a .left) (a .first) (k .before .before .if1 .left) (omega arith) (c .before .before .before .before .if3 .left) _ (c .before .before .before .read-groups .ensures) _ _ (omega (arith, s)) (c .before .high .given .1)
+    groups-more (a .sheet .now) (a .at) (a .left) (a .first) (k .before .before .if1 .left) (omega arith)
+    (c .before .before .before .before .if3 .left) _ (c .before .before .before .read-groups .ensures) _ _ (omega (arith, s)) (c .before .high .given .1)
 
 pub +read-groups-spec : {M : Type 1} → statement M
 +read-groups-spec =
@@ -134,17 +136,17 @@ pub +read-groups-spec : {M : Type 1} → statement M
     (groups-returns-2 t)
     (groups-shared-slice-read-group t)
     (groups-cast-group t)
-    (groups-add-t13 t)
+    (groups-add-t16 t)
     (groups-returns-3 t)
     (groups-returns-4 t)
-    (groups-add-t14 t)
+    (groups-add-t18 t)
     (groups-returns-5 t)
     (groups-add-groups t)
     (groups-sub-groups t)
     (groups-read-groups-requires t)
-    (groups-enum-told t)
+    (groups-enum-known-cause t)
     (groups-enum-known-high t)
-    (groups-mul-t19 t)
-    (groups-add-t20 t)
+    (groups-mul-t23 t)
+    (groups-add-t24 t)
     (groups-returns-6 t)
     (groups-returns-7 t)

@@ -12,11 +12,8 @@ add-at c = search needs
 read-value-requires : tie.Need-read-value-requires
 read-value-requires c κs = search needs
 
-enum-told : tie.Need-enum-told
-enum-told c = search needs
-
-enum-told-2 : tie.Need-enum-told-2
-enum-told-2 c = search needs
+enum-known-cause : tie.Need-enum-known-cause
+enum-known-cause c = search needs
 
 enum-known-end : tie.Need-enum-known-end
 enum-known-end c = search needs
@@ -24,8 +21,8 @@ enum-known-end c = search needs
 read-number-requires : tie.Need-read-number-requires
 read-number-requires c κs = search needs
 
-enum-told-3 : tie.Need-enum-told-3
-enum-told-3 c = search needs
+enum-known-cause-2 : tie.Need-enum-known-cause-2
+enum-known-cause-2 c = search needs
 
 enum-known-follower : tie.Need-enum-known-follower
 enum-known-follower c = search needs
@@ -38,19 +35,17 @@ returns c =
     (goes-on (m .read-number .ensures) _ (ap numberSays (c .before .before .follower .given .1)) (test-passes _ (lt-ltb _ _ (c .if1 .taken))))
 
 returns-2 : tie.Need-returns-2
-returns-2 c = stops (c .before .before .read-value .ensures) _ (ap valueSays (c .enum-told .given .1))
+returns-2 c = stops (c .before .before .before .read-value .ensures) _ (ap valueSays (c .before .cause .given .1))
 
 returns-3 : tie.Need-returns-3
-returns-3 c = stops (c .before .before .read-value .ensures) _ (ap valueSays (c .enum-told2 .given .1))
+returns-3 c =
+    let m = c .before .before .before in
+    let v = m .before .before .before .before in
+    goes-on (v .read-value .ensures) _ (ap valueSays (m .before .before .end .given .1))
+    (stops (m .read-number .ensures) _ (ap numberSays (c .before .cause2 .given .1)))
 
 returns-4 : tie.Need-returns-4
 returns-4 c =
-    let m = c .before .before in
-    let v = m .before .before .before .before in
-    goes-on (v .read-value .ensures) _ (ap valueSays (m .before .before .end .given .1)) (stops (m .read-number .ensures) _ (ap numberSays (c .enum-told3 .given .1)))
-
-returns-5 : tie.Need-returns-5
-returns-5 c =
     let m = c .before .before .before .before in
     let v = m .before .before .before .before in
     let e = ap numberSays (c .before .before .follower .given .1) in
@@ -64,14 +59,12 @@ read-after-name-spec =
     (tie.spec
     add-at
     read-value-requires
-    enum-told
-    enum-told-2
+    enum-known-cause
     enum-known-end
     read-number-requires
-    enum-told-3
+    enum-known-cause-2
     enum-known-follower
     returns
     returns-2
     returns-3
-    returns-4
-    returns-5)
+    returns-4)

@@ -11,8 +11,8 @@ use Rattle.sheet.proofs.read_count.Tie as tie
 number-requires : tie.Need-read-number-requires
 number-requires c κs = search needs
 
-enum-told : tie.Need-enum-told
-enum-told c = search needs
+enum-known-cause : tie.Need-enum-known-cause
+enum-known-cause c = search needs
 
 enum-known-n : tie.Need-enum-known-n
 enum-known-n c = search needs
@@ -23,7 +23,7 @@ returns c = goes-on (c .before .before .before .before .read-number .ensures) _ 
 
 returns-2 : tie.Need-returns-2
 unfolding count
-returns-2 c = stops (c .before .before .read-number .ensures) _ (ap numberSays (c .enum-told .given .1))
+returns-2 c = stops (c .before .before .before .read-number .ensures) _ (ap numberSays (c .before .cause .given .1))
 
 returns-3 : tie.Need-returns-3
 unfolding count
@@ -34,4 +34,4 @@ returns-3 c =
 
 pub read-count-spec : {M : Type 1} → statement M
 read-count-spec =
-    tie.close (tie.spec number-requires enum-told enum-known-n returns returns-2 returns-3)
+    tie.close (tie.spec number-requires enum-known-cause enum-known-n returns returns-2 returns-3)

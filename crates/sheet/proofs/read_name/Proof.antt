@@ -4,7 +4,7 @@ use Prim.Native.Nat.{ℕ, _≤_}
 use native.Mathlib.Omega.{arith}
 use lib.ListN.{length, drop}
 use Rattle.sheet.specs.Sheet.{name}
-use Rattle.sheet.specs.Answers.{Says, reads, Answers, numberSays, bytesAt}
+use Rattle.sheet.specs.Answers.{Said, reads, Agrees, numberSays, bytesAt}
 use Rattle.base.specs.declared.Span.{Span}
 use Rattle.sheet.proofs.AnswerLaws.{same-reading, stops, goes-on, read-within}
 use Rattle.sheet.proofs.NameLaws.{named, name-named, name-long, name-cut, name-bad, name-good}
@@ -12,32 +12,32 @@ use borrow.Author.Needs.{needs}
 use Rattle.sheet.proofs.read_name.Statement.{statement}
 use Rattle.sheet.proofs.read_name.Tie as tie
 
-abbrev sheet : (k : tie.After-known-told) → List ℕ
+abbrev sheet : (k : tie.After-known-told2) → List ℕ
 sheet k = k .before .before .before .before .before .args .sheet .now
 
-abbrev len : (k : tie.After-known-told) → ℕ
+abbrev len : (k : tie.After-known-told2) → ℕ
 len k = k .before .len .given .0 .0
 
-abbrev from : (k : tie.After-known-told) → ℕ
+abbrev from : (k : tie.After-known-told2) → ℕ
 from k = k .before .len .given .0 .1 .0
 
 -- after the length
-told : (k : tie.After-known-told) → numberSays (k .before .before .before .read-number .result) ≡ reads (len k) (from k)
+told : (k : tie.After-known-told2) → numberSays (k .before .before .before .read-number .result) ≡ reads (len k) (from k)
 told k = ap numberSays (k .before .len .given .1)
 
-inside : (k : tie.After-known-told) → from k ≤ length (sheet k)
+inside : (k : tie.After-known-told2) → from k ≤ length (sheet k)
 inside k = read-within (k .before .before .before .read-number .ensures) (told k) .0
 
-after : (k : tie.After-known-told) {says : Says Span}
-    → Answers (sheet k) (bytesAt (sheet k)) (λ s. Unit) says (named (len k) (drop (from k) (sheet k)))
-    → Answers (sheet k) (bytesAt (sheet k)) (λ s. Unit) says (name (drop (k .before .before .before .before .before .args .at) (sheet k)))
+after : (k : tie.After-known-told2) {says : Said Span}
+    → Agrees (sheet k) (bytesAt (sheet k)) (λ s. Unit) says (named (len k) (drop (from k) (sheet k)))
+    → Agrees (sheet k) (bytesAt (sheet k)) (λ s. Unit) says (name (drop (k .before .before .before .before .before .args .at) (sheet k)))
 after k i = same-reading (name-named _) (goes-on (k .before .before .before .read-number .ensures) named (told k) i)
 
 number-requires : tie.Need-read-number-requires
 number-requires c κs = search needs
 
-enum-told : tie.Need-enum-told
-enum-told c = search needs
+enum-known-cause : tie.Need-enum-known-cause
+enum-known-cause c = search needs
 
 enum-known-len : tie.Need-enum-known-len
 enum-known-len c = search needs
@@ -69,7 +69,7 @@ returns-3 c =
     after k (name-good (sheet k) (from k) (len k) (omega arith) (omega arith) (sym (c .before .is-printable .ensures) ∙ c .if3 .taken))
 
 returns-4 : tie.Need-returns-4
-returns-4 c = same-reading (name-named _) (stops (c .before .before .read-number .ensures) named (ap numberSays (c .enum-told .given .1)))
+returns-4 c = same-reading (name-named _) (stops (c .before .before .before .read-number .ensures) named (ap numberSays (c .before .cause .given .1)))
 
 returns-5 : tie.Need-returns-5
 returns-5 c =
@@ -81,7 +81,7 @@ read-name-spec =
     tie.close
     (tie.spec
     number-requires
-    enum-told
+    enum-known-cause
     enum-known-len
     returns
     add-end

@@ -9,8 +9,8 @@ use Rattle.sheet.proofs.read_segment.Tie as tie
 read-name-requires : tie.Need-read-name-requires
 read-name-requires c κs = search needs
 
-enum-told : tie.Need-enum-told
-enum-told c = search needs
+enum-known-cause : tie.Need-enum-known-cause
+enum-known-cause c = search needs
 
 enum-known-name : tie.Need-enum-known-name
 enum-known-name c = search needs
@@ -20,7 +20,7 @@ read-after-name-requires c κs = read-within (c .before .before .before .read-na
 
 returns : tie.Need-returns
 unfolding segment
-returns c = stops (c .before .before .read-name .ensures) _ (ap nameSays (c .enum-told .given .1))
+returns c = stops (c .before .before .before .read-name .ensures) _ (ap nameSays (c .before .cause .given .1))
 
 returns-2 : tie.Need-returns-2
 unfolding segment
@@ -31,7 +31,7 @@ read-segment-spec =
     tie.close
     (tie.spec
     read-name-requires
-    enum-told
+    enum-known-cause
     enum-known-name
     read-after-name-requires
     returns

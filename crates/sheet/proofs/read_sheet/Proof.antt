@@ -1,73 +1,70 @@
-use mathlib.Core.Path.{sym, ap, _∙_}
-use Rattle.sheet.specs.Answers.{numberSays, skippedSays}
+use mathlib.Core.Path.{sym, ap}
+use Rattle.sheet.specs.Answers.{itemsSays}
 use Rattle.sheet.specs.Places.{answerIn}
-use Rattle.sheet.proofs.AnswerLaws.{read-within}
-use Rattle.sheet.proofs.PlaceLaws.{uncounted, items-refused, items-read, places-counted, segments-here}
-use Rattle.sheet.proofs.ReadLaws.{answer-refusal}
+use Rattle.sheet.proofs.PlaceLaws.{segments-refused, targets-refused, bytes-over, both-read}
+use Rattle.sheet.proofs.ReadLaws.{answer-number}
 use borrow.Author.Needs.{needs}
 use Rattle.sheet.proofs.read_sheet.Statement.{statement}
 use Rattle.sheet.proofs.read_sheet.Tie as tie
 
-read-count-requires : tie.Need-read-count-requires
-read-count-requires c κs = search needs
-
-enum-told : tie.Need-enum-told
-enum-told c = search needs
-
-enum-known-count : tie.Need-enum-known-count
-enum-known-count c = search needs
-
-skip-segments-requires : tie.Need-skip-segments-requires
-skip-segments-requires c κs = read-within (c .before .before .before .read-count .ensures) (ap numberSays (c .before .count .given .1)) .0
+read-segments-requires : tie.Need-read-segments-requires
+read-segments-requires c κs = search needs
 
 enum-known-cause : tie.Need-enum-known-cause
 enum-known-cause c = search needs
 
-enum-known-next : tie.Need-enum-known-next
-enum-known-next c = search needs
+enum-known-segments : tie.Need-enum-known-segments
+enum-known-segments c = search needs
 
-read-after-segments-requires : tie.Need-read-after-segments-requires
-read-after-segments-requires c κs = search needs
+read-targets-requires : tie.Need-read-targets-requires
+read-targets-requires c κs = search needs
+
+enum-known-cause-2 : tie.Need-enum-known-cause-2
+enum-known-cause-2 c = search needs
+
+enum-known-targets : tie.Need-enum-known-targets
+enum-known-targets c = search needs
 
 returns : tie.Need-returns
 returns c =
-    let n = c .before .before in
-    let s = n .before .before .args .sheet .now in
-    answer-refusal s _ (sym (ap answerIn (places-counted s ∙ uncounted _ _ _ (n .read-count .ensures) (ap numberSays (c .enum-told .given .1)))))
+    let k = c .before .before .before .before in
+    let n = k .before .before .before .before in
+    answer-number _ _
+    (sym (ap answerIn
+    (bytes-over _ (n .read-segments .ensures) (ap itemsSays (k .before .before .segments .given .1)) (k .read-targets .ensures) (ap itemsSays (c .before .before .targets .given .1)) (c .if1 .taken))))
 
 returns-2 : tie.Need-returns-2
 returns-2 c =
-    let k = c .before .before .before in
-    let n = k .before .before .before .before in
-    let s = n .before .before .args .sheet .now in
-    answer-refusal s _
-    (sym (ap answerIn (places-counted s ∙ items-refused _ _ _ (n .read-count .ensures) (ap numberSays (k .before .before .count .given .1)) (k .skip-segments .ensures) (ap skippedSays (c .before .cause .given .1)))))
+    answer-number _ _
+    (sym (ap answerIn (segments-refused _ (c .before .before .before .read-segments .ensures) (ap itemsSays (c .before .cause .given .1)))))
 
 returns-3 : tie.Need-returns-3
 returns-3 c =
+    let k = c .before .before .before in
+    let n = k .before .before .before .before in
+    answer-number _ _
+    (sym (ap answerIn
+    (targets-refused _ (n .read-segments .ensures) (ap itemsSays (k .before .before .segments .given .1)) (k .read-targets .ensures) (ap itemsSays (c .before .cause2 .given .1)))))
+
+returns-4 : tie.Need-returns-4
+returns-4 c =
     let k = c .before .before .before .before in
     let n = k .before .before .before .before in
-    let s = n .before .before .args .sheet .now in
-    let e = ap numberSays (k .before .before .count .given .1) in
-    answer-refusal s _
-    (c .read-after-segments .ensures
-    ∙ sym
-    (ap answerIn
-    (places-counted s
-    ∙ items-read _ _ _ (n .read-count .ensures) e (k .skip-segments .ensures) (ap skippedSays (c .before .before .next .given .1))
-    ∙ segments-here s _ _ _ (read-within (n .read-count .ensures) e .0))))
+    answer-number _ _
+    (sym (ap answerIn
+    (both-read _ (n .read-segments .ensures) (ap itemsSays (k .before .before .segments .given .1)) (k .read-targets .ensures) (ap itemsSays (c .before .before .targets .given .1)) (c .if1 .left))))
 
 pub read-sheet-spec : {M : Type 1} → statement M
 read-sheet-spec =
     tie.close
     (tie.spec
-    read-count-requires
-    enum-told
-    enum-known-count
-    skip-segments-requires
+    read-segments-requires
     enum-known-cause
-    enum-known-next
-    read-after-segments-requires
+    enum-known-segments
+    read-targets-requires
+    enum-known-cause-2
+    enum-known-targets
     returns
     returns-2
-    returns-3)
+    returns-3
+    returns-4)

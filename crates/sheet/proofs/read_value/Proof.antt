@@ -40,8 +40,8 @@ read-u32-requires c κs = search needs
 word-to-i32-requires : tie.Need-word-to-i32-requires
 word-to-i32-requires c κs = search needs
 
-add-t14 : tie.Need-add-t14
-add-t14 c = search needs
+add-t17 : tie.Need-add-t17
+add-t17 c = search needs
 
 returns-5 : tie.Need-returns-5
 returns-5 c =
@@ -77,7 +77,7 @@ read-value-spec =
     returns-4
     read-u32-requires
     word-to-i32-requires
-    add-t14
+    add-t17
     returns-5
     add-float-value
     float-value-requires

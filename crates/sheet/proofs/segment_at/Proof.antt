@@ -15,23 +15,16 @@ enum-told c = search needs
 no-segment-requires : tie.Need-no-segment-requires
 no-segment-requires c κs = search needs
 
-enum-told-2 : tie.Need-enum-told-2
-enum-told-2 c = search needs
-
-no-segment-requires-2 : tie.Need-no-segment-requires-2
-no-segment-requires-2 c κs = search needs
-
 enum-known-segment : tie.Need-enum-known-segment
 enum-known-segment c = search needs
 
 returns : tie.Need-returns
-returns c = let k = c .before .before .before in absurd (not-refused (k .read-segment .ensures) (ap segmentSays (c .before .enum-told .given .1)) (k .before .before .pre))
+returns c =
+    let k = c .before .before .before in
+    absurd (not-refused (k .read-segment .ensures) (ap segmentSays (c .before .enum-told .given .1)) (k .before .before .pre))
 
 returns-2 : tie.Need-returns-2
-returns-2 c = let k = c .before .before .before in absurd (not-refused (k .read-segment .ensures) (ap segmentSays (c .before .enum-told2 .given .1)) (k .before .before .pre))
-
-returns-3 : tie.Need-returns-3
-returns-3 c = same-says (sym (ap segmentSays (c .before .segment .given .1))) (c .before .before .before .read-segment .ensures)
+returns-2 c = same-says (sym (ap segmentSays (c .before .segment .given .1))) (c .before .before .before .read-segment .ensures)
 
 pub segment-at-spec : {M : Type 1} → statement M
 segment-at-spec =
@@ -40,9 +33,6 @@ segment-at-spec =
     read-segment-requires
     enum-told
     no-segment-requires
-    enum-told-2
-    no-segment-requires-2
     enum-known-segment
     returns
-    returns-2
-    returns-3)
+    returns-2)

@@ -1,42 +1,31 @@
-use mathlib.Core.Path.{_≡_, refl, sym, ap, _∙_}
-use Prim.Native.Nat.{ℕ, _≤_}
+use mathlib.Core.Path.{ap}
 use native.Mathlib.Omega.{arith}
-use lib.ListN.{length, drop}
-use Rattle.sheet.specs.Sheet.{target, repeated}
-use Rattle.sheet.specs.Answers.{ended, targetSays}
-use Rattle.sheet.proofs.AnswerLaws.{refused, read, read-within}
-use Rattle.sheet.proofs.ItemLaws.{ended-none, ended-refused, ended-more}
+use Rattle.sheet.specs.Sheet.{target}
+use Rattle.sheet.specs.Answers.{targetSays}
+use Rattle.sheet.proofs.ItemLaws.{Skipping, skip-first, skip-refused, skip-on, skip-done}
 use borrow.Author.Needs.{needs}
 use Rattle.sheet.proofs.skip_targets.Statement.{statement}
 use Rattle.sheet.proofs.skip_targets.Tie as tie
 
 abbrev Inv-loop : tie.InvT-loop
-Inv-loop sheet at count place₀ left₀ place left = (place ≤ length sheet) × (ended (repeated target left (drop place sheet)) ≡ ended (repeated target count (drop at sheet)))
+Inv-loop sheet at count place₀ left₀ place left = Skipping target sheet count at place left
 
 abbrev μ-loop : tie.MeasureT-loop
 μ-loop sheet at count place₀ left₀ place left = left
 
 loop-holds : tie.Need-loop-holds Inv-loop μ-loop
-loop-holds c = (c .before .pre, refl)
+loop-holds c = skip-first _ _ _ _ (c .before .pre)
 
 read-target-requires : tie.Need-read-target-requires Inv-loop μ-loop
 read-target-requires c κs = search needs
 
-enum-told : tie.Need-enum-told Inv-loop μ-loop
-enum-told c = search needs
+enum-known-cause : tie.Need-enum-known-cause Inv-loop μ-loop
+enum-known-cause c = search needs
 
 returns : tie.Need-returns Inv-loop μ-loop
 returns c =
-    let k = c .before .before .before .before in
-    refused (sym (k .loop .inv .1) ∙ ended-refused target (k .loop .left) _ (λ e. omega arith) (c .before .before .read-target .ensures) (ap targetSays (c .enum-told .given .1)))
-
-enum-told-2 : tie.Need-enum-told-2 Inv-loop μ-loop
-enum-told-2 c = search needs
-
-returns-2 : tie.Need-returns-2 Inv-loop μ-loop
-returns-2 c =
-    let k = c .before .before .before .before in
-    refused (sym (k .loop .inv .1) ∙ ended-refused target (k .loop .left) _ (λ e. omega arith) (c .before .before .read-target .ensures) (ap targetSays (c .enum-told2 .given .1)))
+    let k = c .before .before .before .before .before in
+    skip-refused _ _ _ _ _ _ (k .loop .inv) (λ e. omega arith) (c .before .before .before .read-target .ensures) (ap targetSays (c .before .cause .given .1))
 
 enum-known-next : tie.Need-enum-known-next Inv-loop μ-loop
 enum-known-next c = search needs
@@ -50,15 +39,10 @@ loop-less c = search needs
 loop-again : tie.Need-loop-again Inv-loop μ-loop
 loop-again c =
     let k = c .before .before .before .before .before in
-    let i = c .before .before .before .read-target .ensures in
-    let e = ap targetSays (c .before .next .given .1) in
-    (read-within i e .0, sym (ended-more target (k .loop .left) _ (λ e. omega arith) i e) ∙ k .loop .inv .1)
+    skip-on _ _ _ _ _ _ (k .loop .inv) (λ e. omega arith) (c .before .before .before .read-target .ensures) (ap targetSays (c .before .next .given .1))
 
-returns-3 : tie.Need-returns-3 Inv-loop μ-loop
-returns-3 c =
-    let k = c .before in
-    let z : k .loop .left ≡ 0 = omega arith in
-    read (sym (k .loop .inv .1) ∙ ap (λ (n : ℕ). ended (repeated target n (drop (k .loop .place) (k .before .before .args .sheet .now)))) z ∙ ended-none target _) (k .loop .inv .0) tt
+returns-2 : tie.Need-returns-2 Inv-loop μ-loop
+returns-2 c = skip-done _ _ _ _ _ _ (c .before .loop .inv) (omega arith)
 
 pub skip-targets-spec : {M : Type 1} → statement M
 skip-targets-spec =
@@ -68,12 +52,10 @@ skip-targets-spec =
     μ-loop
     loop-holds
     read-target-requires
-    enum-told
+    enum-known-cause
     returns
-    enum-told-2
-    returns-2
     enum-known-next
     sub-left
     loop-less
     loop-again
-    returns-3)
+    returns-2)

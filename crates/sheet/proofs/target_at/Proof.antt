@@ -15,23 +15,16 @@ enum-told c = search needs
 no-target-requires : tie.Need-no-target-requires
 no-target-requires c κs = search needs
 
-enum-told-2 : tie.Need-enum-told-2
-enum-told-2 c = search needs
-
-no-target-requires-2 : tie.Need-no-target-requires-2
-no-target-requires-2 c κs = search needs
-
 enum-known-target : tie.Need-enum-known-target
 enum-known-target c = search needs
 
 returns : tie.Need-returns
-returns c = let k = c .before .before .before in absurd (not-refused (k .read-target .ensures) (ap targetSays (c .before .enum-told .given .1)) (k .before .before .pre))
+returns c =
+    let k = c .before .before .before in
+    absurd (not-refused (k .read-target .ensures) (ap targetSays (c .before .enum-told .given .1)) (k .before .before .pre))
 
 returns-2 : tie.Need-returns-2
-returns-2 c = let k = c .before .before .before in absurd (not-refused (k .read-target .ensures) (ap targetSays (c .before .enum-told2 .given .1)) (k .before .before .pre))
-
-returns-3 : tie.Need-returns-3
-returns-3 c = same-says (sym (ap targetSays (c .before .target .given .1))) (c .before .before .before .read-target .ensures)
+returns-2 c = same-says (sym (ap targetSays (c .before .target .given .1))) (c .before .before .before .read-target .ensures)
 
 pub target-at-spec : {M : Type 1} → statement M
 target-at-spec =
@@ -40,9 +33,6 @@ target-at-spec =
     read-target-requires
     enum-told
     no-target-requires
-    enum-told-2
-    no-target-requires-2
     enum-known-target
     returns
-    returns-2
-    returns-3)
+    returns-2)
