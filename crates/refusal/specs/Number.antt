@@ -1,4 +1,5 @@
 -- Document 01, 'Refused calls': the number of each cause.
+use mathlib.Core.Option.{Option, none, some}
 use Prim.Native.Nat.{ℕ}
 use Rattle.refusal.specs.declared.Refusal.{Refusal}
 use Rattle.refusal.specs.declared.Refusal.the-variants.{BadMagic, SectionCut, NotDiphone, MissingSection, BadHeader, BadTables, BadIndex, BadSheet, NotFinite, BadSlope, PastLimit, TooManyMarks, ShortBuffer, ShortSlice, BadState}
@@ -34,3 +35,8 @@ numberOf ShortBuffer = 13
 numberOf ShortSlice = 14
 -- filter state impossible, or coefficients end within the next row
 numberOf BadState = 15
+
+-- what a function answers by number: 0 where nothing refuses, or the cause's number
+abbrev pub answerOf : Option Refusal → ℕ
+answerOf none = 0
+answerOf (some r) = numberOf r
