@@ -36,7 +36,7 @@ numberOf ShortSlice = 14
 -- filter state impossible, or coefficients end within the next row
 numberOf BadState = 15
 
--- what a function answers by number: 0 where nothing refuses, or the cause's number
+-- 0, or document 01's number
 abbrev pub answerOf : Option Refusal → ℕ
 answerOf none = 0
 answerOf (some r) = numberOf r
