@@ -69,10 +69,10 @@ sectionsFrom (suc n) file at =
     elim (ltb at (length file)) [
       | false ↦ record { whole = true; list = [] }
       | true ↦
-        elim (isWhole file at) [
-          | false ↦ record { whole = false; list = [] }
-          | true ↦ withSection (sectionAt file at) (sectionsFrom n file (nextPlace file at))
-        ]
+          elim (isWhole file at) [
+            | false ↦ record { whole = false; list = [] }
+            | true ↦ withSection (sectionAt file at) (sectionsFrom n file (nextPlace file at))
+          ]
     ]
 
 -- a section has 5 bytes or more, so as many turns as the file has bytes never run out
