@@ -10,9 +10,6 @@ use std::thread;
 /// Inputs for each function in a run that is not told otherwise.
 const COUNT: u64 = 2_000_000;
 
-/// The largest number that the clamped conversions give.
-const CLAMP: usize = 16_777_216;
-
 /// The word that stands for every NaN.
 const NAN: u32 = 0x7FC0_0000;
 
@@ -91,10 +88,6 @@ fn bits(x: f32) -> u32 {
     }
 }
 
-fn clamped(n: usize) -> u64 {
-    n.min(CLAMP) as u64
-}
-
 /// The functions of one f64.
 fn of_f64(seed: u64, count: u64) -> bool {
     let mut to_f32 = Tally::default();
@@ -107,20 +100,16 @@ fn of_f64(seed: u64, count: u64) -> bool {
     });
 
     let mut to_usize = Tally::default();
-    let mut to_clamped = Tally::default();
     inputs::whole_f64(&mut Rng::new(seed), count, &mut |word| {
         let x = f64::from_bits(word);
         let input = || format!("{word:016x}");
         to_usize.compare(x as usize as u64, probe_f64_to_usize(x) as u64, input);
-        let archive = probe_f64_to_usize_clamped(x) as u64;
-        to_clamped.compare(clamped(x as usize), archive, input);
     });
 
     let which = format!("seed {seed}");
     let first = to_f32.print("f64_to_f32", &which);
     let second = to_usize.print("f64_to_usize", &which);
-    let third = to_clamped.print("f64_to_usize_clamped", &which);
-    first && second && third
+    first && second
 }
 
 /// The functions of several numbers.
@@ -194,13 +183,6 @@ const OF_WORD: [(&str, Sweep); 8] = [
             words,
             |w| f(w) as usize as u64,
             |w| probe_f32_to_usize(f(w)) as u64,
-        )
-    }),
-    ("f32_to_usize_clamped", |words| {
-        sweep(
-            words,
-            |w| clamped(f(w) as usize),
-            |w| probe_f32_to_usize_clamped(f(w)) as u64,
         )
     }),
     ("f32_from_word", |words| {

@@ -59,16 +59,6 @@ module _ {A : Type 0} where
   unfolding over
   sets-over p d h = sets-eq p d 0 (rw zero-add h) ∙ rw zero-add
 
-  -- a part `&mut s[i..i + k]` that was lent came back as p
-  pub sets-part : (l p : List A) (i k : ℕ) → length p ≡ k → i + k ≤ length l → take i l ++ (p ++ drop k (drop i l)) ≡ sets l i p
-  sets-part l p i k e h =
-      let g : i + length p ≤ length l = rw e h in
-      sym
-      (sets-eq p l i g
-      ∙ append-assoc (take i l) p (drop (i + length p) l)
-      ∙ ap (λ (n : ℕ). take i l ++ (p ++ drop (i + n) l)) e
-      ∙ ap (λ (r : List A). take i l ++ (p ++ r)) (sym (drop-drop k i l)))
-
 -- ---- flat
 
 module _ {A B : Type 0} (enc : A → List B) where
@@ -138,9 +128,6 @@ module _ {A B : Type 0} (k : ℕ) (enc : A → List B) (wide : (x : A) → lengt
       let m : sets (over (flat enc (upto f n)) d) (length (flat enc (upto f n))) (enc (f n)) ≡ over (flat enc (upto f n) ++ enc (f n)) d =
       over-more (flat enc (upto f n)) (enc (f n)) d g in
       rw e at m ∙ ap (λ (l : List B). over l d) (sym (flat-snoc enc (upto f n) (f n)) ∙ ap (flat enc) (sym (upto-more f n)))
-
-  pub length-filled : k * n ≤ length d → length (over (flat enc (upto f n)) d) ≡ length d
-  length-filled h = length-over (flat enc (upto f n)) d (rw length-filled-part h)
 
 -- The same where a turn stores the element itself.
 module _ {A : Type 0} (f : ℕ → A) (n : ℕ) (d : List A) where

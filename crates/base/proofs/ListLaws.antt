@@ -116,6 +116,3 @@ module _ {A : Type 0} where
 
   pub heads-longer : {s t : List A} (x : List A) → Heads s t → Heads s (t ++ x)
   heads-longer {s} x h = heads-by (h .more ++ x) (ap (λ (l : List A). l ++ x) (h .whole) ∙ append-assoc s (h .more) x)
-
-  pub heads-trans : {r s t : List A} → Heads r s → Heads s t → Heads r t
-  heads-trans {r} g h = heads-by (g .more ++ h .more) (h .whole ∙ ap (λ (l : List A). l ++ h .more) (g .whole) ∙ append-assoc r (g .more) (h .more))

@@ -169,10 +169,6 @@ module _ (w : Width) where
   unfolding wrap
   wrap-fits z h = ap (toZ w) (low-bits z h) ∙ toZ-ofZ h
 
-  pub low-wrap : (z : ℤ) → low (bits w) (wrap w z) ≡ low (bits w) z
-  unfolding wrap
-  low-wrap z = low-signed (low (bits w) z) (record { fits = low-lt (bits w) z })
-
   -- sums and products of words, modulo the width's power, are those of the integers, kept to the width
   module _ (a b : ℕ) (ha : Fits w a) (hb : Fits w b) where
     pub signed-add : toZ w ((a + b) % 2 ^ bits w) ≡ wrap w (toZ w a +ℤ toZ w b)

@@ -2,6 +2,7 @@
 pub mod Choice
 pub mod Text
 pub mod Lists
+pub mod Spans
 pub mod Buffers
 pub mod Bytes
 pub mod Words

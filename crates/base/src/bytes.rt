@@ -2,7 +2,7 @@
 // against the slice's length.
 ghost use mathlib.Core.Path.{_≡_};
 ghost use Prim.Native.Nat.{_+_, _*_, _≤_};
-ghost use lib.ListN.{length};
+ghost use lib.ListN.{length, getD};
 ghost use lib.Seq.{sets};
 ghost use Rattle.base.specs.Buffers.{over};
 ghost use Rattle.base.specs.Bytes.{littleEndian, bytesOf, u16At, u32At, u64At};
@@ -12,6 +12,16 @@ fn wide(byte: u8) -> u16
     ensures { λ r. ⌜ (r ≡ byte) × (r ≤ 255) ⌝ }
 {
     byte as u16
+}
+
+// The byte at a place, 0 past the end.
+pub fn byte_at(s: &[u8], at: usize) -> usize
+    ensures { λ r. ⌜ (r ≡ getD (now (s .entry)) at 0) × (r ≤ 255) ⌝ }
+{
+    if at < s.len() {
+        return s[at] as usize;
+    }
+    0
 }
 
 // The two bytes at place `at`.

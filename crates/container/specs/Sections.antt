@@ -8,6 +8,7 @@ use Rattle.base.specs.Choice.{pick}
 use Rattle.base.specs.Text.{ascii}
 use Rattle.base.specs.Lists.{every, part}
 use Rattle.base.specs.Bytes.{littleEndian}
+pub use Rattle.base.specs.Spans.{bytesAt}
 use Rattle.base.specs.declared.Span.{Span}
 use Rattle.text.specs.Names.{same}
 use Rattle.text.specs.Utf8.{utf8}
@@ -61,16 +62,20 @@ sectionAt file at = record { name = sectionName file at; span = record { at = da
 abbrev pub withSection : Section → Sections → Sections
 withSection s r = record { whole = r .whole; list = s ∷ r .list }
 
--- from a place on, at most n of them
+-- From a place on. The number counts turns, so that the definition ends: at most n sections are read.
 unfoldable pub sectionsFrom : ℕ → List ℕ → ℕ → Sections
 sectionsFrom zero file at = record { whole = true; list = [] }
 sectionsFrom (suc n) file at =
     elim (ltb at (length file)) [
       | false ↦ record { whole = true; list = [] }
-      | true ↦ elim (isWhole file at) [ false ↦ record { whole = false; list = [] } | true ↦ withSection (sectionAt file at) (sectionsFrom n file (nextPlace file at)) ]
+      | true ↦
+          elim (isWhole file at) [
+            | false ↦ record { whole = false; list = [] }
+            | true ↦ withSection (sectionAt file at) (sectionsFrom n file (nextPlace file at))
+          ]
     ]
 
--- a section has 5 bytes or more, so the file's length is enough of them
+-- a section has 5 bytes or more, so as many turns as the file has bytes never run out
 unfoldable pub sections : List ℕ → Sections
 sections file = sectionsFrom (length file) file 8
 
@@ -85,13 +90,10 @@ abbrev pub isFound : Found → Bool
 isFound (At s) = true
 isFound Missing = false
 
--- where its data stand, and its data; nothing where it is missing
+-- where its data stand (`bytesAt` has the data); nothing where it is missing
 abbrev pub spanOf : Found → Span
 spanOf (At s) = s
 spanOf Missing = record { at = 0; len = 0 }
-
-abbrev pub bytesAt : List ℕ → Span → List ℕ
-bytesAt file s = part file (s .at) (s .len)
 
 -- the bytes are UTF-8 and say `diphone`, but for white space around it
 abbrev pub namesDiphone : List ℕ → Bool

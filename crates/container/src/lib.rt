@@ -22,8 +22,7 @@ pub fn has_magic(file: &[u8]) -> bool
     if file.len() < 8 {
         return false;
     }
-    let magic = [70, 76, 82, 83, 68, 65, 84, 1];
-    text::same(&file[..8], &magic)
+    text::same(&file[..8], b"FLRSDAT\x01")
 }
 
 // The length of the name of the section at a place.
@@ -133,9 +132,8 @@ fn is_diphone_from(s: &[u8], from: usize) -> bool
     if s.len() - from < 7 {
         return false;
     }
-    let name = [100, 105, 112, 104, 111, 110, 101];
     let end = from + 7;
-    if text::same(&s[from..end], &name) {
+    if text::same(&s[from..end], b"diphone") {
         return text::trim::skip(s, end) == s.len();
     }
     false
@@ -155,8 +153,7 @@ fn names_diphone(s: &[u8]) -> bool
 pub fn is_diphone(file: &[u8]) -> bool
     ensures { λ r. ⌜ r ≡ parts.isDiphone (now (file .entry)) ⌝ }
 {
-    let name = [118, 111, 105, 99, 101, 46, 98, 97, 99, 107, 101, 110, 100];
-    match find(file, &name) {
+    match find(file, b"voice.backend") {
         Found::At(data) => {
             let from = data.at;
             let end = from + data.len;

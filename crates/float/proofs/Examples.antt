@@ -3,8 +3,8 @@ use mathlib.Core.Path.{_≡_, refl}
 use mathlib.Core.Bool.{true, false}
 use Prim.Native.Nat.{_-_, _*_, _^_}
 use lib.IntN.{pos, negsuc}
-use lib.Ieee.{nan, inf, fin, round, lt, sub, toUnsigned}
-use Rattle.float.specs.Casts.{narrow, clamped}
+use lib.Ieee.{nan, inf, fin, round, lt, sub}
+use Rattle.float.specs.Casts.{narrow}
 use Rattle.float.specs.Distance.{nearer}
 
 -- ties go to the even one: 16,777,217 down, and 16,777,219 up
@@ -29,10 +29,6 @@ largest = refl
 minus-zero : narrow (fin true 1 (negsuc 149)) ≡ fin true 0 (pos 0)
 unfolding narrow round
 minus-zero = refl
-
-one-above-limit : clamped (fin false 16777217 (pos 0)) ≡ 16777216
-unfolding toUnsigned
-one-above-limit = refl
 
 -- of two equal distances neither is the nearer, nor is any from a NaN
 equally-near : nearer (fin false 1 (pos 0)) (fin false 1 (negsuc 0)) (fin false 3 (negsuc 0)) ≡ false

@@ -133,21 +133,3 @@ negative w (inf true) a = refl
 negative w (inf false) a = absurd a
 negative w (fin true m e) a = refl
 negative w (fin false m e) a = omega (arith, power-pos 0 m e, nltb→le 0 (1 * 2 ^ 0 * down e + m * up e * 1) a)
-
--- on either side of 2 ^ k
-module _ (k w : ℕ) (K : k < w) where
-  pub at-least : (x : Float) → T (le (fin false 1 (pos k)) x) → 2 ^ k ≤ toUnsigned w x
-  unfolding toUnsigned
-  at-least nan t = unfold le in absurd t
-  at-least (inf true) t = unfold le in absurd t
-  at-least (inf false) t = omega (arith, pow-lt K)
-  at-least (fin true m e) t = absurd (not-le k m e t)
-  at-least (fin false m e) t = omega (arith, pow-lt K, from-le k m e t)
-
-  pub less-than : (x : Float) → T (not (le (fin false 1 (pos k)) x)) → toUnsigned w x < 2 ^ k
-  unfolding toUnsigned
-  less-than nan t = pow-pos k
-  less-than (inf true) t = pow-pos k
-  less-than (inf false) t = unfold le in absurd t
-  less-than (fin true m e) t = pow-pos k
-  less-than (fin false m e) t = omega (arith, under k m e (from-nle k m e t))

@@ -6,5 +6,4 @@ pub mod Sign
 pub mod Value
 pub mod Rounding
 pub mod Narrow
-pub mod Keeps
 pub mod Integers

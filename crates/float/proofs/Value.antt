@@ -1,13 +1,11 @@
--- The number that a pattern's fields stand for, and that a format writes a number in one way only. Assumes nothing.
-use mathlib.Core.Path.{_≡_, sym, ap, _∙_}
+-- The number that a pattern's fields stand for, and the pattern of a value. Assumes nothing.
+use mathlib.Core.Path.{_≡_, ap, _∙_}
 use mathlib.Core.Bool.{Bool, cond}
 use Prim.Native.Nat.{ℕ, zero, suc, _+_, _-_, _*_, _/_, _^_, _<_}
 use native.Mathlib.Nat.{lt-irrefl, add-assoc, mul-right-comm}
 use native.Mathlib.Numerals.{sub-one}
 use borrow.Author.Tests.{ne-eqb}
-use lib.Dec.{T}
-use lib.Ieee.{Float, nan, inf, fin, Format, prec, low, up, down, size, fits, hid, ones, top, ofFields, ofBits, toBits}
-use lib.Ieee.Bits.{ofBits-toBits}
+use lib.Ieee.{Float, nan, inf, fin, Format, prec, low, up, down, size, hid, ones, top, ofFields, toBits}
 use lib.Ieee.Exact.{HasValue, odd-sign}
 use lib.Ieee.Fits.{down-pos}
 use lib.Ieee.Nearest.{div-same}
@@ -35,8 +33,3 @@ bits-of f (fin t m e) s a c C h =
     let l = 2 ^ low f in
     let same : m * up e * l / down e ≡ a * l / c = div-same (m * up e * l) (down e) (a * l) c (down-pos e) C (mul-right-comm (m * up e) l c ∙ ap (λ (z : ℕ). z * l) (h .1) ∙ mul-right-comm a (down e) l) in
     rw (same, h .0, add-assoc)
-
--- two values of one format that are the same number are equal
-pub same-value : (f : Format) (v w : Float) (s : Bool) (a c : ℕ) → 0 < c → T (fits f v) → T (fits f w) → HasValue v s a c → HasValue w s a c → v ≡ w
-same-value f v w s a c C p q h k =
-    sym (ofBits-toBits f v p) ∙ ap (ofBits f) (bits-of f v s a c C h ∙ sym (bits-of f w s a c C k)) ∙ ofBits-toBits f w q

@@ -1,10 +1,11 @@
-// Casts between floats and integers as Rust's `as` has them, an f32 by its bit pattern, and which of two floats is nearer. Each public function takes every value.
+// Casts between floats and integers as Rust's `as` has them, an f32 by its bit pattern, and which of two
+// floats is nearer. Each public function takes every value.
 ghost use mathlib.Core.Path.{_≡_};
 ghost use Prim.Native.Nat.{_*_, _^_, _≤_, _<_};
 ghost use lib.IntN.{pos};
 ghost use lib.Ieee.{binary32, binary64, ofBits, toBits, ofInt, toSigned, toUnsigned};
 ghost use lib.Ieee.Nearest.{closest};
-ghost use Rattle.float.specs.Casts.{narrow, clamped};
+ghost use Rattle.float.specs.Casts.{narrow};
 ghost use Rattle.float.specs.Distance.{abs, nearer};
 
 // q / 2^n to the nearest whole number, a tie to the even one.
@@ -104,23 +105,6 @@ pub fn f32_to_usize(x: f32) -> usize
     ensures { λ r. ⌜ r ≡ toUnsigned 64 x ⌝ }
 {
     f64_to_usize(std::num::f32_to_f64_with_nan(x))
-}
-
-// x as usize, with 16,777,216, one more than the limit, for all that is above the limit.
-pub fn f64_to_usize_clamped(x: f64) -> usize
-    ensures { λ r. ⌜ (r ≡ clamped x) × (r ≤ 16777216) ⌝ }
-{
-    if x >= 16777216.0 {
-        return 16777216;
-    }
-    f64_to_usize(x)
-}
-
-// x as usize, with 16,777,216, one more than the limit, for all that is above the limit.
-pub fn f32_to_usize_clamped(x: f32) -> usize
-    ensures { λ r. ⌜ (r ≡ clamped x) × (r ≤ 16777216) ⌝ }
-{
-    f64_to_usize_clamped(std::num::f32_to_f64_with_nan(x))
 }
 
 // n as f32: n itself up to 2^24, and the nearest above, a tie to the even one.

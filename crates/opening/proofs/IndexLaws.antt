@@ -11,7 +11,7 @@ use lib.ListN.{length}
 use Rattle.base.specs.Choice.{pick}
 use Rattle.base.specs.Text.{ascii}
 use Rattle.base.specs.Lists.{every, firstFailing}
-use Rattle.base.specs.Buffers.{over}
+use Rattle.base.specs.Buffers.{over, unlessRefused}
 use Rattle.base.specs.declared.Span.{Span}
 use Rattle.base.proofs.ListLaws.{every-at, length-part}
 use Rattle.container.specs.Sections.{find, sections, spanOf, bytesAt}
@@ -21,7 +21,7 @@ use Rattle.refusal.specs.declared.Refusal.the-variants.{ShortBuffer}
 use Rattle.voice.specs.declared.DiphoneVoice.{DiphoneVoice}
 use Rattle.voice.specs.declared.Opened.the-variants.{Open, Refused}
 use Rattle.voice.specs.Voice.{Voice, entriesFrom, sort, placesOf, voiceAt, voiceOf}
-use Rattle.voice.specs.Opening.{goodIndex, isEmpty, distinct, withinFrames, IsOpen, openingRefusal, openRefusal, openOf, answerOpening, indexFits, indexBytes, fillIndex, indexAfter}
+use Rattle.voice.specs.Opening.{goodIndex, isEmpty, distinct, withinFrames, IsOpen, openingRefusal, openRefusal, openOf, answerOpening, indexFits, indexBytes, indexAfter}
 use Rattle.voice.proofs.OpeningLaws.{passed}
 use Rattle.voice.proofs.TableLaws.{voice-is}
 use Rattle.index.specs.Index.{Indexable, indexOf}
@@ -113,13 +113,13 @@ module _ (file : List ℕ) (d : DiphoneVoice) (o : IsOpen file d) where
   unfolding openOf indexAfter
   short-open old h =
       let e = by-fit (length old) false (fits-not (length old) h) in
-      (sym (ap (answerOpening (placesOf file)) e), sym (ap (fillIndex (indexBytes (voiceOf file)) old) e))
+      (sym (ap (answerOpening (placesOf file)) e), sym (ap (λ (r : Option Refusal). unlessRefused r (indexBytes (voiceOf file)) old) e))
 
   pub filled-open : (old : List ℕ) → d .count ≤ length old / 8 → (Open d ≡ openOf file (length old)) × (over (indexBytes (voiceOf file)) old ≡ indexAfter file old)
   unfolding openOf indexAfter
   filled-open old h =
       let e = by-fit (length old) true (fits-by (length old) h) in
-      (ap (λ (x : DiphoneVoice). Open x) (o .places) ∙ sym (ap (answerOpening (placesOf file)) e), sym (ap (fillIndex (indexBytes (voiceOf file)) old) e))
+      (ap (λ (x : DiphoneVoice). Open x) (o .places) ∙ sym (ap (answerOpening (placesOf file)) e), sym (ap (λ (r : Option Refusal). unlessRefused r (indexBytes (voiceOf file)) old) e))
 
   -- the index has room for the entries
   pub able : (bs : List ℕ) (n : ℕ) → bs ≡ bytesAt file (d .entries) → indexFits (voiceOf file) n ≡ true → length file < 2 ^ 63 → Indexable bs (d .count) (d .entries .at) n

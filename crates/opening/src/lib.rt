@@ -4,6 +4,7 @@ ghost use mathlib.Core.Bool.{true};
 ghost use lib.ListN.{length};
 ghost use Rattle.base.specs.Lists.{firstFailing};
 ghost use Rattle.base.specs.Buffers.{over};
+ghost use Rattle.refusal.specs.Number.{answerOf};
 ghost use Rattle.voice.specs.Voice.{placesOf, voiceOf};
 ghost use Rattle.voice.specs.Opening as openings;
 use refusal::Refusal;
@@ -104,7 +105,8 @@ pub fn open(file: &[u8], index: &mut [u8]) -> Opened
     ensures { λ r.
         ⌜
         (r ≡ openings.openOf (now (file .entry)) (length (now (index .entry)))) ×
-        (now (index .exit) ≡ openings.indexAfter (now (file .entry)) (now (index .entry)))
+        (now (index .exit) ≡ openings.indexAfter (now (file .entry)) (now (index .entry))) ×
+        (openings.openNumber r ≡ answerOf (openings.openRefusal (now (file .entry)) (length (now (index .entry)))))
         ⌝ }
 {
     match check(file) {

@@ -27,12 +27,7 @@ consonants =
     ∷ "v" ∷ "w" ∷ "y" ∷ "z" ∷ "zh" ∷ "pau" ∷ "h#" ∷ "brth"
     ∷ [])
 
--- what each case of `vc` is written as
-abbrev pub vcText : Vc → List ℕ
-vcText Plus = ascii "+"
-vcText Minus = ascii "-"
-vcText Zero = ascii "0"
-
+-- `+` for a vowel, `-` for another phone, `0` for a name that is no phone
 unfoldable pub vc : List ℕ → Vc
 vc name = pick (among name vowels) Plus (pick (among name consonants) Minus Zero)
 

@@ -13,7 +13,7 @@ ghost use Rattle.base.specs.Buffers.{over, flat};
 ghost use Rattle.base.specs.Bytes.{bytesOf};
 ghost use Rattle.base.specs.Choice.{pick};
 ghost use Rattle.base.specs.Words.{low, signed32};
-ghost use Rattle.float.specs.Casts.{narrow, clamped};
+ghost use Rattle.float.specs.Casts.{narrow};
 ghost use Rattle.float.specs.Distance.{nearer};
 ghost use Rattle.probe.specs.Filters.{filterOf, twoPeriods, Lent, fits};
 ghost use Rattle.ulaw.specs.Ulaw.{sampleOf, ulawOf};
@@ -56,22 +56,6 @@ pub extern "C" fn probe_f64_to_usize(x: f64) -> usize
     ensures { λ r. ⌜ r ≡ toUnsigned 64 x ⌝ }
 {
     float::f64_to_usize(x)
-}
-
-// Rust's `(x as usize).min(16777216)`.
-#[no_mangle]
-pub extern "C" fn probe_f32_to_usize_clamped(x: f32) -> usize
-    ensures { λ r. ⌜ r ≡ clamped x ⌝ }
-{
-    float::f32_to_usize_clamped(x)
-}
-
-// Rust's `(x as usize).min(16777216)`.
-#[no_mangle]
-pub extern "C" fn probe_f64_to_usize_clamped(x: f64) -> usize
-    ensures { λ r. ⌜ r ≡ clamped x ⌝ }
-{
-    float::f64_to_usize_clamped(x)
 }
 
 // Rust's `f32::from_bits(word)`.

@@ -8,10 +8,10 @@ use borrow.Author.Tests.{lt-leb, le-leb, ne-eqb, eqb-true, leb-true}
 use lib.Dec.{eqb, leb}
 use lib.ListN.{length, getD, take, drop, length-drop}
 use lib.Seq.{drop-drop, getD-drop}
-use Rattle.base.specs.Choice.{pick}
+use Rattle.base.specs.Choice.{pick, within}
 use Rattle.base.proofs.ListLaws.{and-left, and-right}
 use Rattle.text.specs.Names.{same}
-use Rattle.text.specs.Trim.{within, oneByte, twoBytes, ends2000, afterE2, threeBytes, spaceAt, trimStartBy, trimStart, trimEnd}
+use Rattle.text.specs.Trim.{oneByte, twoBytes, ends2000, afterE2, threeBytes, spaceAt, trimStartBy, trimStart, trimEnd}
 
 or-false : (t : Bool) → (t || false) ≡ t
 or-false true = refl

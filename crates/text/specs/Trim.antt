@@ -2,13 +2,10 @@
 use mathlib.Core.Bool.{Bool, _&&_, _||_}
 use mathlib.Core.List.{List, [], _∷_}
 use Prim.Native.Nat.{ℕ, zero, suc}
-use lib.Dec.{eqb, leb}
+use lib.Dec.{eqb}
 use lib.ListN.{length, getD, drop}
-use Rattle.base.specs.Choice.{pick}
+use Rattle.base.specs.Choice.{pick, within}
 use Rattle.text.specs.Names.{same}
-
-abbrev pub within : ℕ → ℕ → ℕ → Bool
-within lo hi b = leb lo b && leb b hi
 
 -- the white space characters: U+0009 to U+000D and U+0020 of one byte
 abbrev pub oneByte : ℕ → Bool
@@ -39,15 +36,17 @@ spaceAt bs =
     let c = getD bs 2 0 in
     pick (oneByte a) 1 (pick (twoBytes a b) 2 (pick (threeBytes a b c) 3 0))
 
--- without the white space at the front; at most n characters of it
+-- Without the white space at the front. The number counts turns, so that the definition ends: at most n characters are cut.
 unfoldable pub trimStartBy : ℕ → List ℕ → List ℕ
 trimStartBy zero bs = bs
 trimStartBy (suc n) bs = elim (spaceAt bs) [ zero ↦ bs | suc k ↦ trimStartBy n (drop (suc k) bs) ]
 
+-- each cut takes a byte or more, so as many turns as the text has bytes never run out
 unfoldable pub trimStart : List ℕ → List ℕ
 trimStart bs = trimStartBy (length bs) bs
 
--- up to where nothing but white space follows
+-- Up to where nothing but white space follows. In UTF-8 that place begins a character: white space begins with 09 to 0D, 20, C2, E1, E2
+-- or E3, and none of these stands inside a character. So none is cut in two.
 unfoldable pub trimEnd : List ℕ → List ℕ
 trimEnd [] = []
 trimEnd (b ∷ bs) = pick (same (trimStart (b ∷ bs)) []) [] (b ∷ trimEnd bs)

@@ -1,21 +1,11 @@
 // White space at the ends of a text.
 ghost use mathlib.Core.Path.{_≡_};
 ghost use Prim.Native.Nat.{_+_, _≤_};
-ghost use lib.ListN.{length, getD, drop};
+ghost use lib.ListN.{length, drop};
 ghost use Rattle.text.specs.Trim as trims;
 
-// The byte at a place, 0 past the end.
-fn byte_at(s: &[u8], at: usize) -> u8
-    ensures { λ r. ⌜ r ≡ getD (now (s .entry)) at 0 ⌝ }
-{
-    if at < s.len() {
-        return s[at];
-    }
-    0
-}
-
 // Whether a byte is a white space character.
-fn is_one(a: u8) -> bool
+fn is_one(a: usize) -> bool
     ensures { λ r. ⌜ r ≡ trims.oneByte a ⌝ }
 {
     if a < 0x09 {
@@ -28,7 +18,7 @@ fn is_one(a: u8) -> bool
 }
 
 // Whether two bytes are.
-fn is_two(a: u8, b: u8) -> bool
+fn is_two(a: usize, b: usize) -> bool
     ensures { λ r. ⌜ r ≡ trims.twoBytes a b ⌝ }
 {
     if a == 0xC2 {
@@ -41,7 +31,7 @@ fn is_two(a: u8, b: u8) -> bool
 }
 
 // Whether a third byte makes one of U+2000 to U+200A, U+2028, U+2029 and U+202F.
-fn ends_2000(c: u8) -> bool
+fn ends_2000(c: usize) -> bool
     ensures { λ r. ⌜ r ≡ trims.ends2000 c ⌝ }
 {
     if c < 0x80 {
@@ -60,7 +50,7 @@ fn ends_2000(c: u8) -> bool
 }
 
 // Whether the second and third byte make one, after 0xE2.
-fn ends_e2(b: u8, c: u8) -> bool
+fn ends_e2(b: usize, c: usize) -> bool
     ensures { λ r. ⌜ r ≡ trims.afterE2 b c ⌝ }
 {
     if b == 0x80 {
@@ -73,7 +63,7 @@ fn ends_e2(b: u8, c: u8) -> bool
 }
 
 // Whether three bytes are.
-fn is_three(a: u8, b: u8, c: u8) -> bool
+fn is_three(a: usize, b: usize, c: usize) -> bool
     ensures { λ r. ⌜ r ≡ trims.threeBytes a b c ⌝ }
 {
     if a == 0xE2 {
@@ -99,15 +89,15 @@ fn space_at(s: &[u8], at: usize) -> usize
     requires { ⌜ at ≤ length (now s) ⌝ }
     ensures { λ r. ⌜ (r ≡ trims.spaceAt (drop at (now (s .entry)))) × (at + r ≤ length (now (s .entry))) ⌝ }
 {
-    let a = byte_at(s, at);
+    let a = base::bytes::byte_at(s, at);
     if is_one(a) {
         return 1;
     }
-    let b = byte_at(s, at + 1);
+    let b = base::bytes::byte_at(s, at + 1);
     if is_two(a, b) {
         return 2;
     }
-    if is_three(a, b, byte_at(s, at + 2)) {
+    if is_three(a, b, base::bytes::byte_at(s, at + 2)) {
         return 3;
     }
     0

@@ -23,7 +23,7 @@ use Rattle.voice.specs.declared.VoiceHeader.{VoiceHeader}
 use Rattle.voice.specs.declared.DiphoneVoice.{DiphoneVoice}
 use Rattle.voice.specs.Voice.{Voice, sizesAt, voiceOf}
 use Rattle.voice.specs.Periods.{offset, gap, residualOf, sizedBy, samplesOf, rowOf}
-use Rattle.voice.specs.Opening.{IsOpen, rising, hasSizes}
+use Rattle.voice.specs.Opening.{IsOpen, risingIn, hasSizes}
 use Rattle.voice.proofs.OpeningLaws.{opens, passed}
 use Rattle.voice.proofs.PeriodLaws.{rising-le, rising-upto}
 use Rattle.voice.proofs.TableLaws.{tableTests, tables-are, header-is, lpc-is, offsets-is, residual-is, sizes-is, lpc-within, offsets-within, sizes-within}
@@ -72,8 +72,8 @@ module _ (file : List ℕ) (d : DiphoneVoice) (o : IsOpen file d) where
       let h = leb-true _ _ (every-at (tableTests file d) tests 5) in
       subst (λ (s : List ℕ). u32At s frames ≤ d .residual .len) (sym (offsets-is file d (o .places))) h
 
-  risen : rising v frames ≡ true
-  risen = subst (λ (n : ℕ). rising v n ≡ true) frames-is (opens file (o .fit) .offsetsRise)
+  risen : risingIn (v .offsets) frames ≡ true
+  risen = subst (λ (n : ℕ). risingIn (v .offsets) n ≡ true) frames-is (opens file (o .fit) .offsetsRise)
 
   pub offset-most : (i : ℕ) → i ≤ frames → offset v i ≤ d .residual .len
   offset-most i h = let a = rising-le v frames risen i h in let b = last-offset in omega arith

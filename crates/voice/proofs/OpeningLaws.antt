@@ -1,17 +1,20 @@
 -- What a voice that opens shows.
-use mathlib.Core.Path.{_≡_, _∙_}
+use mathlib.Core.Path.{_≡_, refl, _∙_}
 use mathlib.Core.Bool.{true, false}
 use mathlib.Core.List.{List}
-use mathlib.Core.Option.{none, some}
+use mathlib.Core.Option.{Option, none, some}
 use Prim.Native.Nat.{ℕ, _≤_}
 use borrow.Author.Tests.{leb-true}
 use Rattle.base.specs.Text.{ascii}
 use Rattle.base.proofs.ListLaws.{and-left, and-right, every-at, failing-none, failing-passed, failing-here}
+use Rattle.refusal.specs.declared.Refusal.{Refusal}
 use Rattle.refusal.specs.declared.Refusal.the-variants.{SectionCut, NotDiphone}
+use Rattle.refusal.specs.Number.{answerOf}
 use Rattle.container.specs.Sections.{hasMagic, sections, isDiphone, find, spanOf, bytesAt}
+use Rattle.voice.specs.declared.DiphoneVoice.{DiphoneVoice}
 use Rattle.voice.specs.Header.{inScale, goodNumbers, goodScales, goodHeader}
 use Rattle.voice.specs.Voice.{Voice, voiceAt, voiceOf, placesOf}
-use Rattle.voice.specs.Opening.{hasNeeded, rising, goodTables, withinFrames, distinct, goodIndex, openingRefusal}
+use Rattle.voice.specs.Opening.{hasNeeded, risingIn, goodTables, withinFrames, distinct, goodIndex, openingRefusal, openRefusal, answerOpening, openOf, openNumber}
 
 -- 1 to 7 pass
 pub record Passed (file : List ℕ) : Type 0 where
@@ -44,12 +47,21 @@ pub backend-third : (file : List ℕ) → hasMagic file ≡ true → sections fi
 unfolding openingRefusal
 backend-third file m w b = failing-passed _ _ _ m ∙ failing-passed _ _ _ w ∙ failing-here _ _ _ b
 
+-- an opening's number is that of what refuses it
+pub opening-number : (d : DiphoneVoice) (o : Option Refusal) → openNumber (answerOpening d o) ≡ answerOf o
+opening-number d none = refl
+opening-number d (some r) = refl
+
+pub open-number : (file : List ℕ) (n : ℕ) → openNumber (openOf file n) ≡ answerOf (openRefusal file n)
+unfolding openOf
+open-number file n = opening-number (placesOf file) (openRefusal file n)
+
 pub record Opens (v : Voice) : Type 0 where
   pub someFrames : 1 ≤ v .header .frames
   pub orderLow : v .header .order ≤ 32
   pub leastIn : inScale (v .header .«coeff_min») ≡ true
   pub rangeIn : inScale (v .header .«coeff_range») ≡ true
-  pub offsetsRise : rising v (v .header .frames) ≡ true
+  pub offsetsRise : risingIn (v .offsets) (v .header .frames) ≡ true
   pub namesDiffer : distinct (v .entries) ≡ true
   pub entriesEnd : withinFrames (v .header .frames) (v .entries) ≡ true
 

@@ -19,7 +19,7 @@ use Rattle.base.proofs.BufferLaws.{upto-same}
 use Rattle.base.proofs.ByteLaws.{littleEndian-same}
 use Rattle.voice.specs.Voice.{Voice}
 use Rattle.voice.specs.Periods.{offset, gap, residualOf, sizedBy, samplesOf, samplesFrom, rowOf, longest}
-use Rattle.voice.specs.Opening.{risingIn, rising}
+use Rattle.voice.specs.Opening.{risingIn}
 use Rattle.voice.specs.Extends.{Extends, SameSizes, neither, both}
 
 -- ---- lists that agree in their first k elements
@@ -41,21 +41,21 @@ part-agree k a b e s m h =
 
 -- ---- offsets that do not fall
 
-pub rising-le : (v : Voice) (n : ℕ) → rising v n ≡ true → (i : ℕ) → i ≤ n → offset v i ≤ offset v n
+pub rising-le : (v : Voice) (n : ℕ) → risingIn (v .offsets) n ≡ true → (i : ℕ) → i ≤ n → offset v i ≤ offset v n
 unfolding risingIn offset
 rising-le v zero e i h = let z : i ≡ 0 = omega arith in rw z (le-refl _)
-rising-le v (suc n) e i h = ⊎-elim (λ q. rw q (le-refl _)) (λ l. lower (rising-le v n (and-right (leb (offset v n) (offset v (suc n))) (rising v n) e) i (le-of-suc-le-suc l))) (eq-or-lt-of-le h)
+rising-le v (suc n) e i h = ⊎-elim (λ q. rw q (le-refl _)) (λ l. lower (rising-le v n (and-right (leb (offset v n) (offset v (suc n))) (risingIn (v .offsets) n) e) i (le-of-suc-le-suc l))) (eq-or-lt-of-le h)
   where
     lower : offset v i ≤ offset v n → offset v i ≤ offset v (suc n)
-    lower a = let b : offset v n ≤ offset v (suc n) = leb-true (offset v n) (offset v (suc n)) (and-left (leb (offset v n) (offset v (suc n))) (rising v n) e) in omega arith
+    lower a = let b : offset v n ≤ offset v (suc n) = leb-true (offset v n) (offset v (suc n)) (and-left (leb (offset v n) (offset v (suc n))) (risingIn (v .offsets) n) e) in omega arith
 
-pub rising-upto : (v : Voice) (n : ℕ) → rising v n ≡ true → (i : ℕ) → i < n → offset v i ≤ offset v (suc i)
+pub rising-upto : (v : Voice) (n : ℕ) → risingIn (v .offsets) n ≡ true → (i : ℕ) → i < n → offset v i ≤ offset v (suc i)
 unfolding risingIn offset
 rising-upto v zero e i h = absurd (omega arith)
-rising-upto v (suc n) e i h = ⊎-elim here (rising-upto v n (and-right (leb (offset v n) (offset v (suc n))) (rising v n) e) i) (eq-or-lt-of-le (le-of-suc-le-suc h))
+rising-upto v (suc n) e i h = ⊎-elim here (rising-upto v n (and-right (leb (offset v n) (offset v (suc n))) (risingIn (v .offsets) n) e) i) (eq-or-lt-of-le (le-of-suc-le-suc h))
   where
     here : i ≡ n → offset v i ≤ offset v (suc i)
-    here q = rw q (leb-true (offset v n) (offset v (suc n)) (and-left (leb (offset v n) (offset v (suc n))) (rising v n) e))
+    here q = rw q (leb-true (offset v n) (offset v (suc n)) (and-left (leb (offset v n) (offset v (suc n))) (risingIn (v .offsets) n) e))
 
 -- ---- two voices with the same first n periods
 
@@ -65,7 +65,7 @@ pub record Agree (v w : Voice) (n : ℕ) : Type 0 where
   pub residuals : (p : ℕ) → p < n → residualOf w p ≡ residualOf v p
   pub codec : w .header .codec ≡ v .header .codec
 
-module _ (v w : Voice) (x : Extends w v) (r : rising v (v .header .frames) ≡ true) where
+module _ (v w : Voice) (x : Extends w v) (r : risingIn (v .offsets) (v .header .frames) ≡ true) where
   abbrev n : ℕ
   n = v .header .frames
 

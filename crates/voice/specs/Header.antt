@@ -40,9 +40,16 @@ codecNumber G721 = 1
 abbrev pub codecOf : VoiceHeader → Codec
 codecOf h = pick (eqb (h .codec) (codecNumber Ulaw)) Ulaw G721
 
--- a scale is finite, from -16 to 16 (a float `fin s m e` is m × 2 ^ e, negative where s is true); a NaN is in no order
+-- the limits of a scale, -16 and 16: a float `fin s m e` is m × 2 ^ e, negative where s is true
+abbrev pub leastScale : Float
+leastScale = fin true 1 (pos 4)
+
+abbrev pub greatestScale : Float
+greatestScale = fin false 1 (pos 4)
+
+-- a scale is finite, from -16 to 16; a NaN is in no order
 unfoldable pub inScale : Float → Bool
-inScale x = le (fin true 1 (pos 4)) x && le x (fin false 1 (pos 4))
+inScale x = le leastScale x && le x greatestScale
 
 -- 'Limits, added to the Rust': frames at least 1; order 0 to 32; rate 1 to 48,000; a known codec
 unfoldable pub goodNumbers : VoiceHeader → Bool

@@ -9,7 +9,7 @@ use lib.ListN.{length}
 use Rattle.base.specs.Choice.{pick}
 use Rattle.base.specs.Text.{ascii}
 use Rattle.base.specs.Lists.{every, firstFailing, orNext}
-use Rattle.base.specs.Buffers.{over, flat}
+use Rattle.base.specs.Buffers.{unlessRefused, flat}
 use Rattle.base.specs.Bytes.{bytesOf, u32At}
 use Rattle.refusal.specs.declared.Refusal.{Refusal}
 use Rattle.refusal.specs.declared.Refusal.the-variants.{BadMagic, SectionCut, NotDiphone, MissingSection, BadHeader, BadTables, BadIndex, ShortBuffer}
@@ -40,9 +40,6 @@ unfoldable pub risingIn : List ℕ → ℕ → Bool
 risingIn offsets zero = true
 risingIn offsets (suc n) = leb (u32At offsets n) (u32At offsets (suc n)) && risingIn offsets n
 
-abbrev pub rising : Voice → ℕ → Bool
-rising v n = risingIn (v .offsets) n
-
 abbrev pub longEnough : Option (List ℕ) → ℕ → Bool
 longEnough none n = true
 longEnough (some bs) n = leb n (length bs)
@@ -62,7 +59,7 @@ goodTables v =
     ∷ leb (n * v .header .order * 2) (length (v .lpc))
     ∷ longEnough (v .sizes) n
     ∷ leb ((n + 1) * 4) (length (v .offsets))
-    ∷ rising v n
+    ∷ risingIn (v .offsets) n
     ∷ leb (offset v n) (length (v .residual))
     ∷ [])
 
@@ -83,16 +80,21 @@ abbrev pub isEmpty : List Placed → Bool
 isEmpty [] = true
 isEmpty (p ∷ ps) = false
 
--- 7: the count and the entries are not cut short; not empty; each name UTF-8 and none twice; no entry ends past frames
+-- 7, by its five causes; `entriesFrom` stops at an entry that is cut short or whose name is not UTF-8, and is then not whole
 unfoldable pub goodIndex : List ℕ → Bool
 goodIndex file =
     let d = placesOf file in
     let i = entriesFrom (d .count) (bytesAt file (d .entries)) 0 in
     every
+    -- the count is not cut short
     (leb 4 (spanOf (find (ascii "dip.index") (sections file .list)) .len)
+    -- no entry is cut short, and each name is UTF-8
     ∷ i .whole
+    -- the index is not empty
     ∷ not (isEmpty (i .list))
+    -- no name stands twice
     ∷ distinct (i .list)
+    -- no entry ends past the frames
     ∷ withinFrames (d .header .frames) (i .list)
     ∷ [])
 
@@ -139,12 +141,8 @@ abbrev pub indexBytes : Voice → List ℕ
 indexBytes v = flat (bytesOf 8) (sortedIndex v)
 
 -- the index buffer afterwards: on a refusal as it was
-abbrev pub fillIndex : List ℕ → List ℕ → Option Refusal → List ℕ
-fillIndex new old none = over new old
-fillIndex new old (some r) = old
-
 unfoldable pub indexAfter : List ℕ → List ℕ → List ℕ
-indexAfter file old = fillIndex (indexBytes (voiceOf file)) old (openRefusal file (length old))
+indexAfter file old = unlessRefused (openRefusal file (length old)) (indexBytes (voiceOf file)) old
 
 -- document 01's number for an answer: 0 where the voice opens
 abbrev pub openNumber : Opened → ℕ

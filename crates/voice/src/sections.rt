@@ -2,7 +2,7 @@
 ghost use mathlib.Core.Path.{_≡_};
 ghost use mathlib.Core.Bool.{true};
 ghost use Prim.Native.Nat.{_+_, _^_, _≤_, _<_};
-ghost use lib.ListN.{length, getD};
+ghost use lib.ListN.{length};
 ghost use Rattle.base.specs.Text.{ascii};
 ghost use Rattle.base.specs.Bytes.{littleEndian};
 ghost use Rattle.container.specs.Sections as parts;
@@ -17,48 +17,42 @@ use container::Found;
 pub fn find_header(file: &[u8]) -> Found
     ensures { λ r. ⌜ r ≡ parts.find (ascii "sts.header") (parts.sections (now (file .entry)) .list) ⌝ }
 {
-    let name = [115, 116, 115, 46, 104, 101, 97, 100, 101, 114];
-    container::find(file, &name)
+    container::find(file, b"sts.header")
 }
 
 // The section `sts.lpc`.
 pub fn find_lpc(file: &[u8]) -> Found
     ensures { λ r. ⌜ r ≡ parts.find (ascii "sts.lpc") (parts.sections (now (file .entry)) .list) ⌝ }
 {
-    let name = [115, 116, 115, 46, 108, 112, 99];
-    container::find(file, &name)
+    container::find(file, b"sts.lpc")
 }
 
 // The section `sts.resoffs`.
 pub fn find_offsets(file: &[u8]) -> Found
     ensures { λ r. ⌜ r ≡ parts.find (ascii "sts.resoffs") (parts.sections (now (file .entry)) .list) ⌝ }
 {
-    let name = [115, 116, 115, 46, 114, 101, 115, 111, 102, 102, 115];
-    container::find(file, &name)
+    container::find(file, b"sts.resoffs")
 }
 
 // The section `sts.ressize`.
 pub fn find_sizes(file: &[u8]) -> Found
     ensures { λ r. ⌜ r ≡ parts.find (ascii "sts.ressize") (parts.sections (now (file .entry)) .list) ⌝ }
 {
-    let name = [115, 116, 115, 46, 114, 101, 115, 115, 105, 122, 101];
-    container::find(file, &name)
+    container::find(file, b"sts.ressize")
 }
 
 // The section `sts.res`.
 pub fn find_residual(file: &[u8]) -> Found
     ensures { λ r. ⌜ r ≡ parts.find (ascii "sts.res") (parts.sections (now (file .entry)) .list) ⌝ }
 {
-    let name = [115, 116, 115, 46, 114, 101, 115];
-    container::find(file, &name)
+    container::find(file, b"sts.res")
 }
 
 // The section `dip.index`.
 pub fn find_index(file: &[u8]) -> Found
     ensures { λ r. ⌜ r ≡ parts.find (ascii "dip.index") (parts.sections (now (file .entry)) .list) ⌝ }
 {
-    let name = [100, 105, 112, 46, 105, 110, 100, 101, 120];
-    container::find(file, &name)
+    container::find(file, b"dip.index")
 }
 
 // Whether the needed sections are there.
@@ -80,22 +74,14 @@ pub fn has_needed(file: &[u8]) -> bool
     container::is_found(find_index(file))
 }
 
-// The byte at a place, 0 past the end.
-fn byte_at(bytes: &[u8], at: usize) -> usize
-    ensures { λ r. ⌜ (r ≡ getD (now (bytes .entry)) at 0) × (r ≤ 255) ⌝ }
-{
-    if at < bytes.len() {
-        return bytes[at] as usize;
-    }
-    0
-}
-
 // The index's count, at the front of its bytes; bytes that are missing count 0.
 fn count_of(bytes: &[u8]) -> usize
     ensures { λ r. ⌜ r ≡ littleEndian 4 (now (bytes .entry)) 0 ⌝ }
 {
     if bytes.len() < 4 {
-        return byte_at(bytes, 0) + 256 * byte_at(bytes, 1) + 65536 * byte_at(bytes, 2);
+        return base::bytes::byte_at(bytes, 0)
+            + 256 * base::bytes::byte_at(bytes, 1)
+            + 65536 * base::bytes::byte_at(bytes, 2);
     }
     base::bytes::read_u32(bytes, 0) as usize
 }

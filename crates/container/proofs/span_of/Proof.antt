@@ -4,19 +4,15 @@ use borrow.Author.Needs.{needs}
 use Rattle.container.proofs.span_of.Statement.{statement}
 use Rattle.container.proofs.span_of.Tie as tie
 
--- src/lib.rt:123:19
 enum-known-found : tie.Need-enum-known-found
 enum-known-found c = search needs
 
--- src/lib.rt:124:27
 enum-told : tie.Need-enum-told
 enum-told c = search needs
 
--- src/lib.rt:119:1
 returns : tie.Need-returns
 returns c = search needs
 
--- src/lib.rt:119:1
 returns-2 : tie.Need-returns-2
 returns-2 c = ap spanOf (sym (c .enum-told .given .1))
 

@@ -1,11 +1,11 @@
 -- `float::rounded_shift` meets its contract. Assumes nothing.
-use mathlib.Core.Path.{_≡_, sym, _∙_}
-use Prim.Native.Nat.{ℕ, _+_, _*_, _/_, _%_, _^_, _≤_}
+use mathlib.Core.Path.{_≡_, _∙_}
+use Prim.Native.Nat.{_+_, _*_, _/_, _%_, _^_, _≤_}
 use borrow.Author.Needs.{needs}
 use native.Mathlib.Nat.{mod-le, one-mul}
 use native.Mathlib.Omega.{arith}
 use lib.Dec.{ltb, lit<}
-use lib.Pow.{pow-pos, shl-exact, shr-le}
+use lib.Pow.{pow-pos, shl-exact}
 use lib.Ieee.Nearest.{closest}
 use mir.Val.{boolByte}
 use Rattle.float.proofs.Rounding.{goes-by, closest-bound}

@@ -2,8 +2,8 @@ use mathlib.Core.Path.{refl, sym}
 use native.Mathlib.Omega.{arith}
 use lib.ListN.{List·getD-eq-default}
 use borrow.Author.Needs.{needs}
-use Rattle.voice.proofs.sections.byte_at.Statement.{statement}
-use Rattle.voice.proofs.sections.byte_at.Tie as tie
+use Rattle.base.proofs.bytes.byte_at.Statement.{statement}
+use Rattle.base.proofs.bytes.byte_at.Tie as tie
 
 shared-slice-read-result : tie.Need-shared-slice-read-result
 shared-slice-read-result c = search needs
@@ -15,7 +15,7 @@ returns : tie.Need-returns
 returns c = (refl, let h = c .shared-slice-known .given (c .before .before .args .at) in omega (arith, h))
 
 returns-2 : tie.Need-returns-2
-returns-2 c = (sym (List·getD-eq-default (c .before .args .bytes .now) 0 (c .if1 .left)), omega arith)
+returns-2 c = (sym (List·getD-eq-default (c .before .args .s .now) 0 (c .if1 .left)), omega arith)
 
 pub byte-at-spec : {M : Type 1} → statement M
 byte-at-spec = tie.close (tie.spec shared-slice-read-result cast-result returns returns-2)
