@@ -1,0 +1,98 @@
+-- Every spoken call can be made and pulled from in C.
+use mathlib.Core.Path.{_≡_, refl, sym, ap, subst, _∙_}
+use mathlib.Core.Bool.{Bool, true, false, not}
+use mathlib.Core.List.{List, [], _∷_}
+use mathlib.Core.Option.{none as nothing}
+use Prim.Native.Nat.{ℕ}
+use native.Mathlib.Omega.{arith}
+use lib.Dec.{eqb}
+use lib.ListN.{replicate}
+use Rattle.lpc.specs.declared.ResynthType.{ResynthType}
+use Rattle.lpc.specs.declared.ResynthType.the-variants.{Fixed, Float}
+use Rattle.call.specs.declared.JoinType.{JoinType}
+use Rattle.call.specs.declared.JoinType.the-variants.{None, Simple, ModifiedLpc}
+use Rattle.call.specs.declared.Settings.{Settings}
+use Rattle.call.specs.Numbers.{joinOf, filterOf, settingsOf}
+use Rattle.call.specs.Machine.{Shown}
+use Rattle.diphone_c.specs.Open.{answerOf}
+use Rattle.diphone_c.specs.State.{filterNumber}
+use Rattle.diphone_c.specs.Plan.{Handed, refusalOfPlan, handedAfter}
+use Rattle.diphone_c.specs.Pull.{numberFor, stateLeft, sliceLeft}
+use Rattle.diphone_c.proofs.PlannedLaws.{by-call}
+use Rattle.call.specs.SpokenCall.{SpokenCall, LentBytes, readAs}
+use Rattle.law.specs.MadeInC.{PlanMadeInC, made, answerRead, PullsMadeInC, none, more, lentIn, MadeInC}
+use Rattle.law.specs.Demand3.{Pulled}
+use Rattle.law.proofs.Lends.{lend, lendAll, lifetimes}
+
+-- ---- every setting is said by numbers
+
+abbrev joinNumber : JoinType → ℕ
+joinNumber None = 0
+joinNumber Simple = 1
+joinNumber ModifiedLpc = 2
+
+abbrev foldNumber : Bool → ℕ
+foldNumber false = 0
+foldNumber true = 1
+
+join-said : (j : JoinType) → joinOf (joinNumber j) ≡ j
+unfolding joinOf
+join-said None = refl
+join-said Simple = refl
+join-said ModifiedLpc = refl
+
+filter-said : (f : ResynthType) → filterOf (filterNumber f) ≡ f
+filter-said Fixed = refl
+filter-said Float = refl
+
+fold-said : (b : Bool) → not (eqb (foldNumber b) 0) ≡ b
+fold-said false = refl
+fold-said true = refl
+
+said : (o : Settings) → settingsOf (joinNumber (o .join)) (filterNumber (o .filter)) (foldNumber (o .fold)) ≡ o
+unfolding settingsOf
+said o = rw (join-said (o .join), filter-said (o .filter), fold-said (o .fold))
+
+-- ---- the calls
+
+record PullsExist (b : LentBytes) (w : List ℕ) (ds : List (List ℕ)) : Type 0 where
+  shown : List Shown
+  made : PullsMadeInC b w ds shown
+
+pulls-exist : (b : LentBytes) (w : List ℕ) (ds : List (List ℕ)) → PullsExist b w ds
+pulls-exist b w [] = record { shown = []; made = none }
+pulls-exist b w (d ∷ ds) =
+    let l = readAs b in
+    let i = pulls-exist b (stateLeft w l d) ds in
+    record {
+      shown = record { answer = answerRead (numberFor w l d); slice = sliceLeft w l d } ∷ i .shown;
+      made =
+          more (lifetimes 5) (lend w) (lend (b .sizes)) (lend (b .rows)) (lend (b .excitation)) (lend d) (numberFor w l d) (stateLeft w l d) (sliceLeft w l d)
+          refl refl refl (refl, (refl, refl)) (i .made);
+    }
+
+plan-exists : (file sheet : List ℕ) (o : Settings) (h : Handed) → refusalOfPlan file sheet o h ≡ nothing → PlanMadeInC file sheet o h 0 (handedAfter file sheet o h)
+plan-exists file sheet o h e =
+    subst (λ (x : Settings). refusalOfPlan file sheet x h ≡ nothing → PlanMadeInC file sheet x h 0 (handedAfter file sheet x h)) (said o)
+    (λ q.
+    made (lifetimes 10) (lend file) (lend sheet) (joinNumber (o .join)) (filterNumber (o .filter)) (foldNumber (o .fold)) (lendAll (h .buffers)) (lend (h .state)) (lend (h .summary))
+    0 _ (sym (ap answerOf q), refl))
+    e
+
+pub made-in-c-exists : (c : SpokenCall) (ds : List (List ℕ)) → Pulled MadeInC c ds
+made-in-c-exists c ds =
+    let h : Handed = record { buffers = c .lent; state = replicate 168 0; summary = replicate 48 0 } in
+    let after = handedAfter (c .voiceFile) (c .sheetFile) (c .settings) h in
+    let i = pulls-exist (lentIn (after .summary) (after .buffers)) (after .state) ds in
+    let spoken = by-call (c .voiceFile) (c .sheetFile) (c .settings) h (omega arith) (omega arith) ∙ c .notRefused in
+    record {
+      shown = i .shown;
+      after =
+          record {
+            state = h .state;
+            summary = h .summary;
+            left = after;
+            call = plan-exists (c .voiceFile) (c .sheetFile) (c .settings) h spoken;
+            pulls = i .made;
+          };
+    }
