@@ -7,11 +7,10 @@ use lib.ListN.{length, take}
 use Rattle.base.specs.Choice.{pick}
 use Rattle.base.specs.Text.{ascii}
 use Rattle.base.specs.Lists.{orNext}
-use Rattle.base.specs.Buffers.{over}
+use Rattle.base.specs.Buffers.{unlessRefused}
 use Rattle.base.specs.Bytes.{bytesOf}
 use Rattle.refusal.specs.declared.Refusal.{Refusal}
 use Rattle.refusal.specs.declared.Refusal.the-variants.{ShortBuffer}
-use Rattle.refusal.specs.Number.{numberOf}
 use Rattle.container.specs.Sections.{find, sections, spanOf, bytesAt}
 use Rattle.voice.specs.Voice.{voiceOf}
 use Rattle.voice.specs.Periods.{decodeRoom}
@@ -30,16 +29,6 @@ recordLength = 56
 -- 1 to 7, then 13 for an index of n bytes and for a record of m
 unfoldable pub refusalOfOpen : List ℕ → ℕ → ℕ → Option Refusal
 refusalOfOpen file n m = orNext (openRefusal file n) (pick (leb recordLength m) none (some ShortBuffer))
-
--- 0, or document 01's number
-abbrev pub answerOf : Option Refusal → ℕ
-answerOf none = 0
-answerOf (some r) = numberOf r
-
--- a buffer afterwards: on a refusal as it was
-abbrev pub unlessRefused : Option Refusal → List ℕ → List ℕ → List ℕ
-unlessRefused none new old = over new old
-unlessRefused (some r) new old = old
 
 -- the index and the record afterwards
 abbrev pub indexLeft : List ℕ → List ℕ → ℕ → List ℕ

@@ -26,7 +26,7 @@ fn open_buffers(voice: &[u8], d: DiphoneVoice, index: &mut [u8], report: &mut [u
     requires { ⌜ IsOpen (now voice) d ⌝ }
     ensures { λ r.
         ⌜
-        (r ≡ opens.answerOf
+        (r ≡ answerOf
         (opens.refusalOfOpen (now (voice .entry)) (length (now (index .entry))) (length (now (report .entry))))) ×
         ((now (index .exit) ≡ opens.indexLeft (now (voice .entry)) (now (index .entry)) (length (now (report .entry)))) ×
         (now (report .exit) ≡
@@ -48,7 +48,7 @@ fn open_buffers(voice: &[u8], d: DiphoneVoice, index: &mut [u8], report: &mut [u
 pub fn open_in_c(voice: &[u8], index: &mut [u8], report: &mut [u8]) -> u32
     ensures { λ r.
         ⌜
-        (r ≡ opens.answerOf
+        (r ≡ answerOf
         (opens.refusalOfOpen (now (voice .entry)) (length (now (index .entry))) (length (now (report .entry))))) ×
         ((now (index .exit) ≡ opens.indexLeft (now (voice .entry)) (now (index .entry)) (length (now (report .entry)))) ×
         (now (report .exit) ≡

@@ -24,7 +24,8 @@ use Rattle.call.specs.declared.Summary.{Summary}
 use Rattle.call.specs.declared.Called.the-variants.{Spoken, Refused}
 use Rattle.call.specs.declared.Planned.{Planned}
 use Rattle.call.specs.Buffers.{Buffers, needOf, filled, fits, checkRefusal, callRefusal, summaryOf, freshOf, answerBy, plannedOf, overAll, leftBy, buffersAfter}
-use Rattle.c_open.specs.Open.{answerOf, unlessRefused}
+use Rattle.base.specs.Buffers.{unlessRefused}
+use Rattle.refusal.specs.Number.{answerOf}
 use Rattle.c_plan.specs.Reports.{needBytes, summaryBytes}
 use Rattle.c_state.specs.State.{bytesOfState}
 use Rattle.c_plan.specs.Plan.{shortReport, refusalOfNeed, needLeft, Handed, refusalOfPlan, handedBy, handedAfter}

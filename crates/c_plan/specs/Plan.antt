@@ -12,7 +12,7 @@ use Rattle.voice.specs.Voice.{voiceOf}
 use Rattle.sheet.specs.Sheet.{sheetOf}
 use Rattle.call.specs.declared.Settings.{Settings}
 use Rattle.call.specs.Buffers.{Buffers, lent, needOf, checkRefusal, callRefusal, filled, leftBy, summaryOf, freshOf}
-use Rattle.c_open.specs.Open.{unlessRefused}
+use Rattle.base.specs.Buffers.{unlessRefused}
 use Rattle.c_plan.specs.Reports.{reportLength, needBytes, summaryBytes}
 use Rattle.c_state.specs.State.{stateLength, bytesOfState}
 

@@ -5,7 +5,7 @@ mod reports;
 ghost use mathlib.Core.Path.{_≡_};
 ghost use lib.ListN.{length};
 ghost use Rattle.call.specs.Numbers as numbers;
-ghost use Rattle.c_open.specs.Open.{answerOf};
+ghost use Rattle.refusal.specs.Number.{answerOf};
 ghost use Rattle.c_plan.specs.Plan as plans;
 use checking::Checked;
 

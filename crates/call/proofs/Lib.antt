@@ -3,3 +3,6 @@ pub mod PullLaws
 pub mod MachineLaws
 pub mod CallLaws
 pub mod FilledLaws
+pub mod FewLaws
+pub mod SpokenLaws
+pub mod LentLaws

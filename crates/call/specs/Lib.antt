@@ -4,3 +4,4 @@ pub mod Numbers
 pub mod Buffers
 pub mod Pull
 pub mod Machine
+pub mod SpokenCall

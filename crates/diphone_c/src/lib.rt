@@ -13,7 +13,7 @@ ghost use Rattle.c_pull.specs.Pull as pulls;
 pub extern "C" fn diphone_open(voice: &[u8], index: &mut [u8], report: &mut [u8]) -> u32
     ensures { λ r.
         ⌜
-        (r ≡ opens.answerOf
+        (r ≡ answerOf
         (opens.refusalOfOpen (now (voice .entry)) (length (now (index .entry))) (length (now (report .entry))))) ×
         ((now (index .exit) ≡ opens.indexLeft (now (voice .entry)) (now (index .entry)) (length (now (report .entry)))) ×
         (now (report .exit) ≡
@@ -28,7 +28,7 @@ pub extern "C" fn diphone_open(voice: &[u8], index: &mut [u8], report: &mut [u8]
 pub extern "C" fn diphone_need(voice: &[u8], sheet: &[u8], settings: u32, need: &mut [u8]) -> u32
     ensures { λ r.
         ⌜
-        r ≡ opens.answerOf
+        r ≡ answerOf
         (plans.refusalOfNeed (now (voice .entry)) (now (sheet .entry)) (numbers.settingsOf settings)
         (length (now (need .entry))))
         ⌝ }
@@ -58,7 +58,7 @@ pub extern "C" fn diphone_plan(
 ) -> u32
     ensures { λ r.
         ⌜
-        r ≡ opens.answerOf
+        r ≡ answerOf
         (plans.refusalOfPlan (now (voice .entry)) (now (sheet .entry)) (numbers.settingsOf settings)
         (plans.handed (now (index .entry)) (now (marks .entry)) (now (sizes .entry)) (now (rows .entry))
         (now (excitation .entry)) (now (decoded .entry)) (now (state .entry)) (now (summary .entry))))

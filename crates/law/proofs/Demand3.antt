@@ -35,13 +35,17 @@ use Rattle.call.proofs.PullLaws.{shows-done, fresh-machine}
 use Rattle.call.proofs.MachineLaws.{machine-writes, machine-at, machine-within, before-within, shows-done-all, shows-refused, machine-done-all}
 use Rattle.call.proofs.CallLaws.{periods-ahead, periods-equal}
 use Rattle.call.proofs.FilledLaws.{periods-low, periods-back}
-use Rattle.law.proofs.SpokenLaws.{opened, planned, fresh}
-use Rattle.law.proofs.LentLaws.{lentTaken, lent-filled}
-use Rattle.law.specs.SpokenCall.{SpokenCall, LentBytes, lentBy, voiceIn, sheetIn, periodsIn, samplesIn, bytesAfter, readAs, stateAfter, pullsAfter, Longer, BeginsWith}
+use Rattle.call.proofs.SpokenLaws.{opened, planned, fresh}
+use Rattle.call.proofs.LentLaws.{lentTaken, lent-filled}
+use Rattle.call.specs.SpokenCall.{SpokenCall, LentBytes, lentBy, voiceIn, sheetIn, periodsIn, samplesIn, bytesAfter, readAs, stateAfter, pullsAfter}
+use Rattle.law.specs.Longer.{Longer, BeginsWith}
 use Rattle.law.proofs.InC.{spoken-in-c, in-c-spoken, made-in-c}
+use Rattle.law.proofs.Inhabited.{made-exists}
+use Rattle.law.proofs.InhabitedInC.{made-in-c-exists}
+use Rattle.law.proofs.TwoCalls.{two-calls}
 use Rattle.law.specs.Made.{PlanMade, made, PullsMade, none, more, MadeAfter}
 use Rattle.law.specs.MadeInC.{MadeInC}
-use Rattle.law.specs.Demand3.{WholeLists, Claim, Demand3, answerAt, givenBefore}
+use Rattle.law.specs.Demand3.{WholeLists, Pulled, Claim, Demand3, answerAt, givenBefore}
 
 -- ---- every list of pulls
 
@@ -157,9 +161,11 @@ begun c d l ds es s t =
     record { heads = rw (a, b) (x .heads); equal = λ e. b ∙ x .equal e ∙ sym a }
 
 -- the claim, of all that shows what the definition does
-claim : (After : SpokenCall → List (List ℕ) → List Shown → Type 0) → ((c : SpokenCall) (ds : List (List ℕ)) (os : List Shown) → After c ds os → os ≡ pullsAfter c ds) → Claim After
-claim After same =
+claim : (After : SpokenCall → List (List ℕ) → List Shown → Type 0) → ((c : SpokenCall) (ds : List (List ℕ)) → Pulled After c ds)
+    → ((c : SpokenCall) (ds : List (List ℕ)) (os : List Shown) → After c ds os → os ≡ pullsAfter c ds) → Claim After
+claim After there same =
     record {
+      pulled = there;
       wholeLists = λ c ds os a. subst (WholeLists c ds) (sym (same c ds os a)) (lists c ds);
       longer = λ c d l ds es os ps a b s t.
           let e = same c ds os a in
@@ -180,7 +186,7 @@ made-pulls b s _ _ (more {ds} {os} κs _ sizes rows excitation samples r left hz
 
 -- A call of `diphone::plan`, known by its contract, is the definition's.
 plan-made : (file sheet : List ℕ) (o : Settings) (b after : Buffers) (r : Planned) → PlanMade file sheet o b r after → (r ≡ plannedOf file sheet o b) × (after ≡ buffersAfter file sheet o b)
-plan-made _ _ _ _ _ _ (made κs voice sheet index marks sizes rows excitation decoded o r after post) = (post .0, post .1)
+plan-made _ _ _ _ _ _ (made κs voice sheet l o r after post) = (post .0, post .1)
 
 answer-none : (v : Voice) (s : Sheet) (o : Settings) (m : Summary) (u : Option Refusal) → answerBy v s o u .answer ≡ Spoken m → u ≡ nothing
 answer-none v s o m nothing e = refl
@@ -212,11 +218,12 @@ made-after c ds os m =
 pub demand3 : Demand3
 demand3 =
     record {
-      defined = claim (λ c ds os. os ≡ pullsAfter c ds) (λ c ds os e. e);
-      made = claim MadeAfter made-after;
-      madeInC = claim MadeInC made-in-c;
+      defined = claim (λ c ds os. os ≡ pullsAfter c ds) (λ c ds. record { shown = pullsAfter c ds; after = refl }) (λ c ds os e. e);
+      made = claim MadeAfter (λ c ds. record { shown = pullsAfter c ds; after = made-exists c ds }) made-after;
+      madeInC = claim MadeInC made-in-c-exists made-in-c;
       spoken = made-spoken;
       spokenThen = spoken-made;
       spokenInC = spoken-in-c;
       spokenInCThen = in-c-spoken;
+      twoCalls = two-calls;
     }

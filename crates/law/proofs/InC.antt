@@ -24,7 +24,7 @@ use Rattle.call.specs.Call.{periodsTaken}
 use Rattle.call.specs.Buffers.{callRefusal, summaryOf, filled, overAll, buffersAfter, freshOf}
 use Rattle.call.specs.Pull.{Lent, lentOf, allGiven, possible, nextPart, Outcome, leaves, pullOf, pullNumber}
 use Rattle.call.specs.Machine.{Shown, pulls}
-use Rattle.c_open.specs.Open.{answerOf}
+use Rattle.refusal.specs.Number.{answerOf}
 use Rattle.c_plan.specs.Reports.{summaryBytes}
 use Rattle.c_plan.specs.Plan.{Handed, refusalOfPlan, handedBy, handedAfter}
 use Rattle.c_pull.specs.Pull.{numberFor, stateLeft, sliceLeft}
@@ -34,9 +34,10 @@ use Rattle.c_state.proofs.RoundLaws.{Storable}
 use Rattle.c_state.proofs.StorableLaws.{fresh-storable}
 use Rattle.c_plan.proofs.NumberLaws.{summary-stored}
 use Rattle.c_pull.proofs.HeldLaws.{HoldsState, stored-holds, outcome-held, next-held}
-use Rattle.law.proofs.LentLaws.{lent-filled}
-use Rattle.law.proofs.SpokenLaws.{opened, fresh, periods-fit, samples-fit}
-use Rattle.law.specs.SpokenCall.{SpokenCall, LentBytes, voiceIn, sheetIn, bytesAfter, readAs, lentAfter, pullsAfter}
+use Rattle.call.proofs.LentLaws.{lent-filled}
+use Rattle.call.proofs.FewLaws.{periods-few, samples-few}
+use Rattle.call.proofs.SpokenLaws.{opened, planned, fresh}
+use Rattle.call.specs.SpokenCall.{SpokenCall, LentBytes, voiceIn, sheetIn, bytesAfter, readAs, lentAfter, pullsAfter}
 use Rattle.law.specs.MadeInC.{PlanMadeInC, made, answerRead, PullsMadeInC, none, more, lentIn, MadeInC}
 
 -- ---- the pulls
@@ -83,22 +84,22 @@ pulls-in-c b _ s _ _ held z e (more {ds} {os} κs state sizes rows excitation sa
 
 -- A call of `diphone_plan`, known by its contract, is the definition's.
 plan-in-c : (file sheet : List ℕ) (o : Settings) (h : Handed) (r : ℕ) (after : Handed) → PlanMadeInC file sheet o h r after
-    → PlanEnds file sheet o h r after × ((length (h .buffers .sizes) < 2 ^ 64) × (length (h .buffers .excitation) < 2 ^ 64))
-plan-in-c _ _ _ _ _ _ (made κs voice sheet settings index marks sizes rows excitation decoded state summary r after z e post) = ((post .0, post .1), (z, e))
+    → PlanEnds file sheet o h r after
+plan-in-c _ _ _ _ _ _ (made κs voice sheet settings l state summary r after post) = (post .0, post .1)
 
 pub spoken-in-c : (file sheet : List ℕ) (o : Settings) (h after : Handed) → PlanMadeInC file sheet o h 0 after → callRefusal file sheet o (h .buffers) ≡ nothing
 unfolding refusalOfPlan
-spoken-in-c file sheet o h after p = next-none (callRefusal file sheet o (h .buffers)) _ (answered-none (refusalOfPlan file sheet o h) (plan-in-c file sheet o h 0 after p .0 .0)) .0
+spoken-in-c file sheet o h after p = next-none (callRefusal file sheet o (h .buffers)) _ (answered-none (refusalOfPlan file sheet o h) (plan-in-c file sheet o h 0 after p .0)) .0
 
 pub in-c-spoken : (file sheet : List ℕ) (o : Settings) (h : Handed) (r : ℕ) (after : Handed) → PlanMadeInC file sheet o h r after → callRefusal file sheet o (h .buffers) ≡ nothing
     → 168 ≤ length (h .state) → 48 ≤ length (h .summary) → r ≡ 0
-in-c-spoken file sheet o h r after p e j k = plan-in-c file sheet o h r after p .0 .0 ∙ ap answerOf (by-call file sheet o h j k ∙ e)
+in-c-spoken file sheet o h r after p e j k = plan-in-c file sheet o h r after p .0 ∙ ap answerOf (by-call file sheet o h j k ∙ e)
 
 -- what it left
 left-in-c : (file sheet : List ℕ) (o : Settings) (h after : Handed) → PlanMadeInC file sheet o h 0 after → after ≡ handedBy file sheet o h nothing
 unfolding handedAfter
 left-in-c file sheet o h after p =
-    let e = plan-in-c file sheet o h 0 after p .0 in
+    let e = plan-in-c file sheet o h 0 after p in
     e .1 ∙ ap (handedBy file sheet o h) (answered-none (refusalOfPlan file sheet o h) (e .0))
 
 -- ---- a spoken call
@@ -130,23 +131,24 @@ module _ (c : SpokenCall) where
   unfolding summaryOf
   excitation-told = ap (λ (l : Lent). length (l .excitation)) (lent-filled c)
 
-  module _ (sizesLow : length (c .lent .sizes) < 2 ^ 64) (excitationLow : length (c .lent .excitation) < 2 ^ 64) where
-    periods-low : told .periods < 2 ^ 64
-    periods-low = let l = periods-fit c in omega arith
+  periods-low : told .periods < 2 ^ 64
+  unfolding summaryOf
+  periods-low = let l = periods-few (voiceIn c) (sheetIn c) (c .settings) (planned c) in omega arith
 
-    samples-low : told .samples < 2 ^ 64
-    samples-low = let l = samples-fit c in omega arith
+  samples-low : told .samples < 2 ^ 64
+  unfolding summaryOf
+  samples-low = samples-few (voiceIn c) (sheetIn c) (c .settings) (planned c)
 
-    -- the pulls are lent what the call filled
-    lent-in-c : (w : List ℕ) → lentIn (over (summaryBytes told) w) (overAll (filled (voiceIn c) (sheetIn c) (c .settings)) (c .lent)) ≡ bytesAfter c
-    unfolding bytesAfter buffersAfter
-    lent-in-c w =
-        let b = over (summaryBytes told) w in
-        let periods : littleEndian 8 b 8 ≡ told .periods = summary-stored told w 1 (omega arith) periods-low in
-        let samples : littleEndian 8 b 16 ≡ told .samples = summary-stored told w 2 (omega arith) samples-low in
-        let order : littleEndian 8 b 32 ≡ told .order = summary-stored told w 4 (omega arith) (let l = order-told in omega arith) in
-        let n = c .notRefused in
-        rw (periods, samples, order, n)
+  -- the pulls are lent what the call filled
+  lent-in-c : (w : List ℕ) → lentIn (over (summaryBytes told) w) (overAll (filled (voiceIn c) (sheetIn c) (c .settings)) (c .lent)) ≡ bytesAfter c
+  unfolding bytesAfter buffersAfter
+  lent-in-c w =
+      let b = over (summaryBytes told) w in
+      let periods : littleEndian 8 b 8 ≡ told .periods = summary-stored told w 1 (omega arith) periods-low in
+      let samples : littleEndian 8 b 16 ≡ told .samples = summary-stored told w 2 (omega arith) samples-low in
+      let order : littleEndian 8 b 32 ≡ told .order = summary-stored told w 4 (omega arith) (let l = order-told in omega arith) in
+      let n = c .notRefused in
+      rw (periods, samples, order, n)
 
 -- ---- a call and its pulls
 
@@ -155,11 +157,10 @@ unfolding pullsAfter
 made-in-c c ds os m =
     let h : Handed = record { buffers = c .lent; state = m .state; summary = m .summary } in
     let f = freshOf (voiceIn c) (c .settings) in
-    let p = plan-in-c (c .voiceFile) (c .sheetFile) (c .settings) h 0 (m .left) (m .call) in
     let e = left-in-c (c .voiceFile) (c .sheetFile) (c .settings) h (m .left) (m .call) in
-    let b : lentIn (m .left .summary) (m .left .buffers) ≡ bytesAfter c = ap (λ (x : Handed). lentIn (x .summary) (x .buffers)) e ∙ lent-in-c c (p .1 .0) (p .1 .1) (m .summary) in
+    let b : lentIn (m .left .summary) (m .left .buffers) ≡ bytesAfter c = ap (λ (x : Handed). lentIn (x .summary) (x .buffers)) e ∙ lent-in-c c (m .summary) in
     let held = subst (λ (x : Handed). HoldsState (x .state) f) (sym e) (stored-holds f (m .state) (first-storable c)) in
-    let z : length (lentAfter c .sizes) < 2 ^ 64 = let q = sizes-told c in let l = periods-low c (p .1 .0) (p .1 .1) in rw q l in
-    let x : length (lentAfter c .excitation) < 2 ^ 64 = let q = excitation-told c in let l = samples-low c (p .1 .0) (p .1 .1) in rw q l in
+    let z : length (lentAfter c .sizes) < 2 ^ 64 = let q = sizes-told c in let l = periods-low c in rw q l in
+    let x : length (lentAfter c .excitation) < 2 ^ 64 = let q = excitation-told c in let l = samples-low c in rw q l in
     pulls-in-c (bytesAfter c) (m .left .state) f ds os held z x (subst (λ (x : LentBytes). PullsMadeInC x (m .left .state) ds os) b (m .pulls))
     ∙ ap (λ (s : FilterState). pulls s (lentAfter c) ds) (sym (fresh c))

@@ -1,6 +1,7 @@
--- Demand 3, what a spoken call's pulls are lent, and document 01's proved examples.
-pub mod SpokenLaws
-pub mod LentLaws
+-- Demand 3: it holds of all calls and pulls that were made, and such are made after every spoken call.
+pub mod Lends
 pub mod InC
+pub mod Inhabited
+pub mod InhabitedInC
+pub mod TwoCalls
 pub mod Demand3
-pub mod Examples

@@ -20,7 +20,9 @@ use Rattle.call.specs.Machine.{Shown, machine, written, samplesWritten, bytesOf
 use Rattle.c_plan.specs.Reports.{reportLength}
 use Rattle.c_state.specs.State.{stateLength}
 use Rattle.c_plan.specs.Plan.{Handed}
-use Rattle.law.specs.SpokenCall.{SpokenCall, periodsIn, pullsAfter, Longer, BeginsWith}
+use Rattle.call.specs.SpokenCall.{SpokenCall, periodsIn, pullsAfter}
+use Rattle.law.specs.Longer.{Longer, BeginsWith}
+use Rattle.law.specs.TwoCalls.{TwoCalls}
 use Rattle.law.specs.Made.{PlanMade, MadeAfter}
 use Rattle.law.specs.MadeInC.{PlanMadeInC, MadeInC}
 
@@ -31,7 +33,8 @@ answerAt os i = getD os i (record { answer = Done; slice = [] }) .answer
 abbrev pub givenBefore : List Shown → ℕ → ℕ
 givenBefore os i = given (take i os)
 
--- 'For every list of pulls in a spoken call, refused ones included and whatever sample slices they are lent, ..': lent the slices ds, they showed os
+-- 'For every list of pulls in a spoken call, refused ones included and whatever sample slices they are lent, ..': lent the slices ds, they
+-- showed os
 pub record WholeLists (c : SpokenCall) (ds : List (List ℕ)) (os : List Shown) : Type 0 where
   -- document 01: 'Which of these three each pull does, and every element of its slice afterwards, are the machine's'
   pub machines : os ≡ machine (periodsIn c) 0 ds
@@ -46,25 +49,36 @@ pub record WholeLists (c : SpokenCall) (ds : List (List ℕ)) (os : List Shown) 
   pub refused : (i : ℕ) → i < length ds → (r : Refusal) → answerAt os i ≡ Refused r
       → (r ≡ ShortSlice) × (length (getD ds i []) / 2 < length (getD (periodsIn c) (givenBefore os i) []))
 
--- The claim, where `After c ds os` says that after the call c pulls that were lent the slices ds showed os.
-pub record Claim (After : SpokenCall → List (List ℕ) → List Shown → Type 0) : Type 0 where
-  pub wholeLists : (c : SpokenCall) (ds : List (List ℕ)) (os : List Shown) → After c ds os → WholeLists c ds os
-  -- 'Now take two spoken calls ..: whatever slices the pulls of either are lent, the samples that the first has written when it says done begin those
-  -- that the second has written at its own done, and are all of them if the sheets are equal.'
-  pub longer : (c d : SpokenCall) → Longer d c → (ds es : List (List ℕ)) (os ps : List Shown) → After c ds os → After d es ps → SaysDone os → SaysDone ps
-      → BeginsWith d c (samplesWritten ps) (samplesWritten os)
+-- `After c ds os` says that after the call c pulls that were lent the slices ds showed os; and there is something that they showed
+pub record Pulled (After : SpokenCall → List (List ℕ) → List Shown → Type 0) (c : SpokenCall) (ds : List (List ℕ)) : Type 0 where
+  pub shown : List Shown
+  pub after : After c ds shown
 
--- Demand 3 over the definitions, over the contracts of `diphone::plan` and `diphone::pull` for any list of calls, and over those of `diphone_plan` and
--- `diphone_pull`, which a program in C calls.
+-- The claim.
+pub record Claim (After : SpokenCall → List (List ℕ) → List Shown → Type 0) : Type 0 where
+  -- it speaks of something: after every spoken call, and whatever slices they are lent, pulls are made
+  pub pulled : (c : SpokenCall) (ds : List (List ℕ)) → Pulled After c ds
+  pub wholeLists : (c : SpokenCall) (ds : List (List ℕ)) (os : List Shown) → After c ds os → WholeLists c ds os
+  -- 'Now take two spoken calls ..: whatever slices the pulls of either are lent, the samples that the first has written when it says done
+  -- begin those that the second has written at its own done, and are all of them if the sheets are equal.'
+  pub longer : (c d : SpokenCall) → Longer d c → (ds es : List (List ℕ)) (os ps : List Shown) → After c ds os → After d es ps
+      → SaysDone os → SaysDone ps → BeginsWith d c (samplesWritten ps) (samplesWritten os)
+
+-- Demand 3 over the definitions, over the contracts of `diphone::plan` and `diphone::pull` for any list of calls, and over those of
+-- `diphone_plan` and `diphone_pull`, which a program in C calls.
 pub record Demand3 : Type 0 where
   pub defined : Claim (λ c ds os. os ≡ pullsAfter c ds)
   pub made : Claim MadeAfter
   pub madeInC : Claim MadeInC
   -- 'a call not refused': a call made is one just where it answers that it is spoken
-  pub spoken : (file sheet : List ℕ) (o : Settings) (b after : Buffers) (r : Planned) (m : Summary) → PlanMade file sheet o b r after → r .answer ≡ Spoken m → callRefusal file sheet o b ≡ none
-  pub spokenThen : (file sheet : List ℕ) (o : Settings) (b after : Buffers) (r : Planned) → PlanMade file sheet o b r after → callRefusal file sheet o b ≡ none
-      → r .answer ≡ Spoken (summaryOf (voiceOf file) (sheetOf sheet) o)
+  pub spoken : (file sheet : List ℕ) (o : Settings) (b after : Buffers) (r : Planned) (m : Summary) → PlanMade file sheet o b r after
+      → r .answer ≡ Spoken m → callRefusal file sheet o b ≡ none
+  pub spokenThen : (file sheet : List ℕ) (o : Settings) (b after : Buffers) (r : Planned) → PlanMade file sheet o b r after
+      → callRefusal file sheet o b ≡ none → r .answer ≡ Spoken (summaryOf (voiceOf file) (sheetOf sheet) o)
   -- the same of a call in C, which answers 0; its state and its summary must have room too
-  pub spokenInC : (file sheet : List ℕ) (o : Settings) (h after : Handed) → PlanMadeInC file sheet o h 0 after → callRefusal file sheet o (h .buffers) ≡ none
-  pub spokenInCThen : (file sheet : List ℕ) (o : Settings) (h : Handed) (r : ℕ) (after : Handed) → PlanMadeInC file sheet o h r after → callRefusal file sheet o (h .buffers) ≡ none
-      → stateLength ≤ length (h .state) → reportLength ≤ length (h .summary) → r ≡ 0
+  pub spokenInC : (file sheet : List ℕ) (o : Settings) (h after : Handed) → PlanMadeInC file sheet o h 0 after
+      → callRefusal file sheet o (h .buffers) ≡ none
+  pub spokenInCThen : (file sheet : List ℕ) (o : Settings) (h : Handed) (r : ℕ) (after : Handed) → PlanMadeInC file sheet o h r after
+      → callRefusal file sheet o (h .buffers) ≡ none → stateLength ≤ length (h .state) → reportLength ≤ length (h .summary) → r ≡ 0
+  -- two calls of which the second is longer
+  pub twoCalls : TwoCalls

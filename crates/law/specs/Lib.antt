@@ -1,6 +1,6 @@
 -- The root of law's definitions.
-pub mod SpokenCall
+pub mod Longer
+pub mod TwoCalls
 pub mod Made
 pub mod MadeInC
 pub mod Demand3
-pub mod ProvedExamples

@@ -1,1 +1,1 @@
-// Theorems over the definitions: demand 3, and document 01's proved examples.
+// Theorems over the definitions and the contracts: demand 3.

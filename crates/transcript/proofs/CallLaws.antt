@@ -34,8 +34,8 @@ use Rattle.call.specs.declared.Planned.{Planned}
 use Rattle.call.specs.Call.{planOf, periodsTaken, periodsOf}
 use Rattle.call.specs.Buffers.{Buffers, filled, needOf, holds, fits, checkRefusal, callRefusal, summaryOf, freshOf, answerBy, plannedOf, buffersAfter}
 use Rattle.planning.proofs.PlanLaws.{spoken-buffers}
-use Rattle.law.specs.SpokenCall.{SpokenCall, bytesAfter}
-use Rattle.law.proofs.LentLaws.{lentTaken, lent-filled}
+use Rattle.call.specs.SpokenCall.{SpokenCall, bytesAfter}
+use Rattle.call.proofs.LentLaws.{lentTaken, lent-filled}
 use Rattle.lines.specs.Lines.{refused}
 use Rattle.transcript.specs.CallText.{spokenText, callText, periodsFor, Fresh, front, Spoke, spokenBy}
 

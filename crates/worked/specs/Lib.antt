@@ -1,2 +1,4 @@
 -- The root of worked's definitions.
 pub mod Tried
+pub mod Files
+pub mod ProvedExamples

@@ -2,11 +2,11 @@
 use mathlib.Core.Path.{_≡_}
 use Rattle.voice.proofs.LowLaws.{lpc-bytes}
 use Rattle.excitation.specs.Taken.{sizesOf, rowsOf, excitationOf}
 use Rattle.call.specs.Call.{periodsTaken}
 use Rattle.call.specs.Buffers.{buffersAfter}
 use Rattle.call.specs.Pull.{Lent, lentOf}
 use Rattle.call.proofs.FilledLaws.{call-planned, sizes-front, rows-front, excitation-front}
-use Rattle.law.specs.SpokenCall.{SpokenCall, voiceIn, sheetIn, bytesAfter, lentAfter}
+use Rattle.call.specs.SpokenCall.{SpokenCall, voiceIn, sheetIn, bytesAfter, lentAfter}
 
 -- the sizes, rows and excitation of the periods taken
 abbrev pub lentTaken : SpokenCall → Lent

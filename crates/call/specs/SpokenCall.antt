@@ -1,24 +1,19 @@
 -- Document 01: 'A spoken call is a call not refused and any list of pulls after it.'
 use mathlib.Core.Path.{_≡_}
-use mathlib.Core.Bool.{true}
 use mathlib.Core.List.{List}
 use mathlib.Core.Option.{none}
 use Prim.Native.Nat.{ℕ, _*_}
 use lib.ListN.{take}
-use Rattle.base.specs.Lists.{Heads}
 use Rattle.base.specs.Bytes.{Bytes}
 use Rattle.voice.specs.Voice.{Voice, voiceOf}
-use Rattle.voice.specs.Extends.{Extends}
 use Rattle.sheet.specs.Sheet.{Sheet, sheetOf}
-use Rattle.sheet.specs.Begins.{Begins}
-use Rattle.units.specs.Selecting.{firstTriedFound}
 use Rattle.lpc.specs.declared.FilterState.{FilterState}
 use Rattle.call.specs.declared.Settings.{Settings}
 use Rattle.call.specs.declared.Summary.{Summary}
 use Rattle.call.specs.Call.{periodsOf, samplesOfCall}
 use Rattle.call.specs.Buffers.{Buffers, callRefusal, summaryOf, plannedOf, buffersAfter}
 use Rattle.call.specs.Pull.{Lent, lentOf}
 use Rattle.call.specs.Machine.{Shown, pulls}
 
 -- the voice file, of bytes, and the sheet, the settings, the buffers as they were lent, and that the call was not refused
 pub record SpokenCall : Type 0 where
@@ -49,7 +44,12 @@ pub record LentBytes : Type 0 where
   pub excitation : List ℕ
 
 abbrev pub lentBy : Summary → Buffers → LentBytes
-lentBy m b = record { sizes = take (4 * m .periods) (b .sizes); rows = take (2 * (m .periods * m .order)) (b .rows); excitation = take (m .samples) (b .excitation) }
+lentBy m b =
+    record {
+      sizes = take (4 * m .periods) (b .sizes);
+      rows = take (2 * (m .periods * m .order)) (b .rows);
+      excitation = take (m .samples) (b .excitation);
+    }
 
 unfoldable pub bytesAfter : SpokenCall → LentBytes
 bytesAfter c = lentBy (summaryOf (voiceIn c) (sheetIn c) (c .settings)) (buffersAfter (c .voiceFile) (c .sheetFile) (c .settings) (c .lent))
@@ -67,16 +67,3 @@ stateAfter c = plannedOf (c .voiceFile) (c .sheetFile) (c .settings) (c .lent) .
 -- '.. each other the state the last one returned or left', and each 'a sample slice of any length'
 unfoldable pub pullsAfter : SpokenCall → List (List ℕ) → List Shown
 pullsAfter c ds = pulls (stateAfter c) (lentAfter c) ds
-
--- Demand 3: 'Now take two spoken calls under the same settings, let the second voice extend the first and the second sheet begin with all segments and
--- targets of the first. If each pair of the first sheet finds its first-tried name in the first voice ..'
-pub record Longer (d c : SpokenCall) : Type 0 where
-  pub settings : d .settings ≡ c .settings
-  pub extends : Extends (voiceIn d) (voiceIn c)
-  pub begins : Begins (sheetIn d) (sheetIn c)
-  pub found : firstTriedFound (voiceIn c) (c .settings .fold) (sheetIn c .segments) ≡ true
-
--- '.. begin those .., and are all of them if the sheets are equal'
-pub record BeginsWith {A : Type 0} (d c : SpokenCall) (longer shorter : List A) : Type 0 where
-  pub heads : Heads shorter longer
-  pub equal : sheetIn d ≡ sheetIn c → longer ≡ shorter

@@ -1,0 +1,97 @@
+-- A call that is not refused has at most 65,536 periods, and fewer than 2 ^ 64 samples.
+use mathlib.Core.Path.{_≡_}
+use mathlib.Core.Bool.{Bool, true, false}
+use mathlib.Core.List.{List, [], _∷_}
+use mathlib.Core.Option.{none}
+use Prim.Native.Nat.{ℕ, suc, _*_, _^_, _≤_, _<_}
+use native.Mathlib.Omega.{arith}
+use lib.Dec.{leb, ltb}
+use lib.ListN.{length, length-map}
+use Rattle.base.proofs.BoundLaws.{Below}
+use Rattle.base.proofs.CaseLaws.{by-order}
+use Rattle.voice.specs.Voice.{Voice}
+use Rattle.sheet.specs.declared.Target.{Target}
+use Rattle.sheet.specs.Sheet.{SegmentRead, Sheet}
+use Rattle.units.specs.declared.Unit.{Unit}
+use Rattle.units.specs.Selecting.{folded}
+use Rattle.units.specs.Units.{unitsOf, greatestEnd}
+use Rattle.marks.specs.PitchMarks.{mostMarks}
+use Rattle.marks.specs.NaturalMarks.{naturalMarks}
+use Rattle.marks.specs.Checking.{upTo}
+use Rattle.marks.proofs.CountLaws.{marks-most, refusal-most}
+use Rattle.excitation.specs.Taken.{Period, takenFrom, taken, sizesOf, excitationOf}
+use Rattle.excitation.proofs.CountLaws.{taken-few, taken-count}
+use Rattle.excitation.proofs.SizedLaws.{total, sizes-total, taken-sized, taken-sizes}
+use Rattle.call.specs.declared.JoinType.{JoinType}
+use Rattle.call.specs.declared.JoinType.the-variants.{None, Simple, ModifiedLpc}
+use Rattle.call.specs.declared.Settings.{Settings}
+use Rattle.call.specs.Call.{simplePlan, modifiedPlan, planBy, planOf, periodsTaken}
+use Rattle.call.proofs.CallLaws.{twoSegments}
+use Rattle.call.proofs.FilledLaws.{plan-low}
+
+-- ---- marks
+
+by-most : (j : JoinType) (v : Voice) (ss : List SegmentRead) (ts : List Target) → planBy j v ss ts .refusal ≡ none → length (planBy j v ss ts .marks) ≤ mostMarks
+unfolding planBy simplePlan modifiedPlan
+by-most None v ss ts e = omega arith
+by-most Simple v ss ts e = refusal-most mostMarks (naturalMarks v 0 (unitsOf v ss)) e
+by-most ModifiedLpc v ss ts e = marks-most (v .header .rate) ts
+
+pub plan-most : (v : Voice) (s : Sheet) (o : Settings) → planOf v s o .refusal ≡ none → length (planOf v s o .marks) ≤ mostMarks
+unfolding planOf
+plan-most v s o e = by (ltb (length (s .segments)) 2) e
+  where
+    by : (t : Bool) → twoSegments t (planBy (o .join) v (folded (o .fold) (s .segments)) (s .targets)) .refusal ≡ none
+        → length (twoSegments t (planBy (o .join) v (folded (o .fold) (s .segments)) (s .targets)) .marks) ≤ mostMarks
+    by true e = omega arith
+    by false e = by-most (o .join) v (folded (o .fold) (s .segments)) (s .targets) e
+
+-- ---- periods and samples
+
+upTo-most : (end : ℕ) (ms : List ℕ) → length (upTo end ms) ≤ length ms
+unfolding upTo
+upTo-most end [] = omega arith
+upTo-most end (m ∷ ms) = by (leb m end) (upTo-most end ms)
+  where
+    by : (t : Bool) → length (upTo end ms) ≤ length ms → length {A = ℕ} (elim t [ false ↦ [] | true ↦ m ∷ upTo end ms ]) ≤ length (m ∷ ms)
+    by true l = omega arith
+    by false l = omega arith
+
+-- no more periods are taken than there are marks
+taken-most : (v : Voice) (us : List Unit) (ms : List ℕ) → length (taken v us ms) ≤ length ms
+unfolding taken takenFrom
+taken-most v [] ms = by (ltb (length ms) 2)
+  where
+    by : (t : Bool) → length {A = Period} (elim t [ true ↦ [] | false ↦ takenFrom v 0 0 [] ms ]) ≤ length ms
+    by true = omega arith
+    by false = omega arith
+taken-most v (u ∷ us) ms =
+    by-order (length ms) 2
+    (λ l. let e = taken-few v (u ∷ us) ms l .0 in omega arith)
+    (λ l.
+    let e = taken-count v (u ∷ us) ms l (omega arith) in
+    let k = upTo-most (greatestEnd (u ∷ us)) ms in
+    omega arith)
+
+total-most : (xs : List ℕ) → Below (2 ^ 32) xs → total xs ≤ length xs * 4294967296
+total-most [] h = omega arith
+total-most (x ∷ xs) h = let a = h 0 in let k = total-most xs (λ j. h (suc j)) in omega arith
+
+module _ (v : Voice) (s : Sheet) (o : Settings) (e : planOf v s o .refusal ≡ none) where
+  pub periods-few : length (periodsTaken v s o) ≤ 65536
+  unfolding periodsTaken
+  periods-few =
+      let a = taken-most v (planOf v s o .units) (planOf v s o .marks) in
+      let b = plan-most v s o e in
+      omega arith
+
+  pub samples-few : length (excitationOf (periodsTaken v s o)) < 2 ^ 64
+  unfolding periodsTaken sizesOf
+  samples-few =
+      let us = planOf v s o .units in
+      let ms = planOf v s o .marks in
+      let t = sizes-total (v .header .order) (taken v us ms) (taken-sized v us ms) in
+      let b = total-most (sizesOf (taken v us ms)) (taken-sizes v us ms (plan-low v s o e)) in
+      let n = length-map (taken v us ms) (λ (p : Period). p .size) in
+      let f = periods-few in
+      omega arith
