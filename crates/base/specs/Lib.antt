@@ -6,3 +6,4 @@ pub mod Buffers
 pub mod Bytes
 pub mod Words
 pub mod Tables
+pub mod Perm
