@@ -6,3 +6,4 @@ pub mod BoundLaws
 pub mod ByteLaws
 pub mod WordLaws
 pub mod TableLaws
+pub mod PermLaws

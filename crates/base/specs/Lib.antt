@@ -7,3 +7,4 @@ pub mod Buffers
 pub mod Bytes
 pub mod Words
 pub mod Tables
+pub mod Perm

@@ -8,4 +8,6 @@ pub mod InsertLaws
 pub mod StoreLaws
 pub mod FirstLaws
 pub mod SearchLaws
+pub mod ReorderLaws
+pub mod ShuffleLaws
 pub mod FilledLaws

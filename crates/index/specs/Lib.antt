@@ -1,2 +1,3 @@
 -- The root of index's definitions.
 pub mod Index
+pub mod Shuffle

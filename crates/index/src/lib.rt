@@ -7,10 +7,11 @@ ghost use lib.ListN.{length, getD, take, drop};
 ghost use Rattle.base.specs.Buffers.{over};
 ghost use Rattle.base.specs.Choice.{pick};
 ghost use Rattle.text.specs.Names.{before};
-ghost use Rattle.voice.specs.Voice.{entryAt, nextEntry, wholeEntry, entriesFrom, isSome, sort};
+ghost use Rattle.voice.specs.Voice.{entryAt, nextEntry, wholeEntry, entriesFrom, sort};
 ghost use Rattle.voice.specs.Voice as voices;
 ghost use Rattle.voice.specs.Opening.{withinFrames, distinct};
 ghost use Rattle.index.specs.Index.{Small, Indexable, Filled, periodsOf, foundOf, ascending, firstOf, indexOf, sortedFrom};
+ghost use Rattle.index.specs.Shuffle.{Shuffled, nameIn};
 use text::Order;
 
 // The numbers of an entry: its first pitch period, and how many its two halves have.
@@ -35,7 +36,7 @@ fn byte_at(entries: &[u8], at: usize) -> usize
 }
 
 // Where the next entry begins.
-fn next_entry(entries: &[u8], at: usize) -> usize
+pub fn next_entry(entries: &[u8], at: usize) -> usize
     requires { ⌜ nextEntry (now entries) at ≤ length (now entries) ⌝ }
     ensures { λ r.
         ⌜
@@ -47,7 +48,7 @@ fn next_entry(entries: &[u8], at: usize) -> usize
 }
 
 // The name of the entry at a place.
-fn name_at(entries: &[u8], at: usize) -> &[u8]
+pub fn name_at(entries: &[u8], at: usize) -> &[u8]
     requires { ⌜ nextEntry (now entries) at ≤ length (now entries) ⌝ }
     ensures { λ r. ⌜ now r ≡ entryAt (now (entries .entry)) at .name ⌝ }
 {
@@ -139,7 +140,7 @@ fn stands_before(entries: &[u8], a: usize, b: usize) -> bool
 }
 
 // Whether each name stands before the next.
-fn is_ascending(entries: &[u8], count: usize) -> bool
+pub fn is_ascending(entries: &[u8], count: usize) -> bool
     requires { ⌜ entriesFrom count (now entries) 0 .whole ≡ true ⌝ }
     ensures { λ r. ⌜ r ≡ ascending (entriesFrom count (now (entries .entry)) 0 .list) ⌝ }
 {
@@ -176,53 +177,6 @@ fn lookup_from(entries: &[u8], from: usize, count: usize, name: &[u8]) -> FoundE
         left -= 1;
     }
     FoundEntry::Missing
-}
-
-// Whether the name of the entry at a place stands among the `count` entries from another place on.
-fn stands_among(entries: &[u8], at: usize, from: usize, count: usize) -> bool
-    requires { ⌜
-        (nextEntry (now entries) at ≤ length (now entries)) ×
-        (entriesFrom count (now entries) from .whole ≡ true)
-        ⌝ }
-    ensures { λ r.
-        ⌜
-        r ≡ isSome
-        (voices.lookup (entryAt (now (entries .entry)) at .name) (entriesFrom count (now (entries .entry)) from .list))
-        ⌝ }
-{
-    match lookup_from(entries, from, count, name_at(entries, at)) {
-        FoundEntry::Found(_) => true,
-        FoundEntry::Missing => false,
-    }
-}
-
-// Whether no name stands twice, each compared with all that follow.
-fn names_differ(entries: &[u8], count: usize) -> bool
-    requires { ⌜ entriesFrom count (now entries) 0 .whole ≡ true ⌝ }
-    ensures { λ r. ⌜ r ≡ distinct (entriesFrom count (now (entries .entry)) 0 .list) ⌝ }
-{
-    let mut at = 0;
-    let mut left = count;
-    while 0 < left {
-        let next = next_entry(entries, at);
-        left -= 1;
-        if stands_among(entries, at, next, left) {
-            return false;
-        }
-        at = next;
-    }
-    true
-}
-
-// Whether no name stands twice. Names in order are each compared with the next alone.
-pub fn has_distinct_names(entries: &[u8], count: usize) -> bool
-    requires { ⌜ entriesFrom count (now entries) 0 .whole ≡ true ⌝ }
-    ensures { λ r. ⌜ r ≡ distinct (entriesFrom count (now (entries .entry)) 0 .list) ⌝ }
-{
-    if is_ascending(entries, count) {
-        return true;
-    }
-    names_differ(entries, count)
 }
 
 // Stores where each entry begins in the file at the front of the index, in file order.
@@ -290,6 +244,179 @@ fn sort_places(entries: &[u8], count: usize, base: usize, index: &mut [u8])
     }
 }
 
+// Whether the entry whose place stands at i of the index stands before that at j.
+fn places_ascend(
+    entries: &[u8],
+    count: usize,
+    base: usize,
+    index: &[u8],
+    i: usize,
+    j: usize,
+) -> bool
+    requires { ⌜
+        Shuffled (now entries) count base (now index) (now index) ×
+        ((i < count) × (j < count))
+        ⌝ }
+    ensures { λ r.
+        ⌜
+        r ≡ before
+        (nameIn (now (entries .entry)) base (now (index .entry)) i)
+        (nameIn (now (entries .entry)) base (now (index .entry)) j)
+        ⌝ }
+{
+    let a = base::bytes::u64_at(index, i) as usize - base;
+    let b = base::bytes::u64_at(index, j) as usize - base;
+    stands_before(entries, a, b)
+}
+
+// Whether the places of the index stand in name order, no name twice.
+pub fn is_ordered(entries: &[u8], count: usize, base: usize, index: &[u8]) -> bool
+    requires { ⌜ Shuffled (now entries) count base (now index) (now index) ⌝ }
+    ensures { λ r.
+        ⌜
+        ((s : Shuffled (now (entries .entry)) count base (now (index .entry)) (now (index .entry))) →
+        r ≡ ascending (s .places))
+        ⌝ }
+{
+    let mut i = 1;
+    while i < count {
+        if places_ascend(entries, count, base, index, i - 1, i) {
+            i += 1;
+        } else {
+            return false;
+        }
+    }
+    true
+}
+
+// Exchanges places i and j of the index.
+fn exchange_places(entries: &[u8], count: usize, base: usize, index: &mut [u8], i: usize, j: usize)
+    requires { ⌜
+        Shuffled (now entries) count base (now index) (now index) ×
+        ((i < j) × (j < count))
+        ⌝ }
+    ensures { λ _.
+        ⌜ Shuffled (now (entries .entry)) count base (now (index .entry)) (now (index .exit)) ⌝ }
+{
+    let a = base::bytes::u64_at(index, i);
+    let b = base::bytes::u64_at(index, j);
+    base::bytes::put_u64(index, i, b);
+    base::bytes::put_u64(index, j, a);
+}
+
+// Of place `child` and the next, if that is below `end`, the one whose entry stands later.
+fn later_place(
+    entries: &[u8],
+    count: usize,
+    base: usize,
+    index: &[u8],
+    child: usize,
+    end: usize,
+) -> usize
+    requires { ⌜
+        Shuffled (now entries) count base (now index) (now index) ×
+        ((child < end) × (end ≤ count))
+        ⌝ }
+    ensures { λ r. ⌜ (child ≤ r) × (r < end) ⌝ }
+{
+    if child + 1 < end {
+        if places_ascend(entries, count, base, index, child, child + 1) {
+            return child + 1;
+        }
+    }
+    child
+}
+
+// Lets the entry at place `root` sink in the heap that ends at `end`, below those that stand later.
+fn sink_place(entries: &[u8], count: usize, base: usize, index: &mut [u8], root: usize, end: usize)
+    requires { ⌜
+        Shuffled (now entries) count base (now index) (now index) × (end ≤ count)
+        ⌝ }
+    ensures { λ _.
+        ⌜ Shuffled (now (entries .entry)) count base (now (index .entry)) (now (index .exit)) ⌝ }
+{
+    let mut at = root;
+    while at < end / 2 {
+        let child = later_place(entries, count, base, index, 2 * at + 1, end);
+        if places_ascend(entries, count, base, index, at, child) {
+            exchange_places(entries, count, base, index, at, child);
+            at = child;
+        } else {
+            return;
+        }
+    }
+}
+
+// Makes a heap of the places: each entry stands later than the two below it.
+fn build_heap(entries: &[u8], count: usize, base: usize, index: &mut [u8])
+    requires { ⌜ Shuffled (now entries) count base (now index) (now index) ⌝ }
+    ensures { λ _.
+        ⌜ Shuffled (now (entries .entry)) count base (now (index .entry)) (now (index .exit)) ⌝ }
+{
+    let mut i = count / 2;
+    while 0 < i {
+        i -= 1;
+        sink_place(entries, count, base, index, i, count);
+    }
+}
+
+// Takes the last entry in name order from the heap's top, again and again, to the heap's end.
+fn empty_heap(entries: &[u8], count: usize, base: usize, index: &mut [u8])
+    requires { ⌜ Shuffled (now entries) count base (now index) (now index) ⌝ }
+    ensures { λ _.
+        ⌜ Shuffled (now (entries .entry)) count base (now (index .entry)) (now (index .exit)) ⌝ }
+{
+    let mut end = count;
+    while 1 < end {
+        end -= 1;
+        exchange_places(entries, count, base, index, 0, end);
+        sink_place(entries, count, base, index, 0, end);
+    }
+}
+
+// Brings the places of the index in order by a heap. That the order is right is tested afterwards;
+// proved here is only that no place is lost.
+fn heap_places(entries: &[u8], count: usize, base: usize, index: &mut [u8])
+    requires { ⌜ Shuffled (now entries) count base (now index) (now index) ⌝ }
+    ensures { λ _.
+        ⌜ Shuffled (now (entries .entry)) count base (now (index .entry)) (now (index .exit)) ⌝ }
+{
+    build_heap(entries, count, base, index);
+    empty_heap(entries, count, base, index);
+}
+
+// Fills the index by insertion: also where a name stands twice.
+pub fn insert_places(entries: &[u8], count: usize, base: usize, index: &mut [u8])
+    requires { ⌜ Indexable (now entries) count base (length (now index)) ⌝ }
+    ensures { λ _.
+        ⌜
+        now (index .exit) ≡
+        over (indexOf base (sort (entriesFrom count (now (entries .entry)) 0 .list))) (now (index .entry))
+        ⌝ }
+{
+    store_places(entries, count, base, index);
+    sort_places(entries, count, base, index);
+}
+
+// Stores the places and brings them in order, by a heap where the file has them otherwise. Says
+// whether they stand in name order, no name twice.
+pub fn order_places(entries: &[u8], count: usize, base: usize, index: &mut [u8]) -> bool
+    requires { ⌜ Indexable (now entries) count base (length (now index)) ⌝ }
+    ensures { λ r.
+        ⌜
+        Shuffled (now (entries .entry)) count base (now (index .entry)) (now (index .exit)) ×
+        ((s : Shuffled (now (entries .entry)) count base (now (index .exit)) (now (index .exit))) →
+        r ≡ ascending (s .places))
+        ⌝ }
+{
+    store_places(entries, count, base, index);
+    if is_ordered(entries, count, base, index) {
+        return true;
+    }
+    heap_places(entries, count, base, index);
+    is_ordered(entries, count, base, index)
+}
+
 // Fills the index: where each entry begins in the file, in name order. The entries' bytes begin at
 // `base`.
 pub fn fill_index(entries: &[u8], count: usize, base: usize, index: &mut [u8])
@@ -300,8 +427,10 @@ pub fn fill_index(entries: &[u8], count: usize, base: usize, index: &mut [u8])
         over (indexOf base (sort (entriesFrom count (now (entries .entry)) 0 .list))) (now (index .entry))
         ⌝ }
 {
-    store_places(entries, count, base, index);
-    sort_places(entries, count, base, index);
+    if order_places(entries, count, base, index) {
+        return;
+    }
+    insert_places(entries, count, base, index);
 }
 
 // What the index has under a name, without the sorted index.

@@ -29,7 +29,7 @@ fn has_good_index(file: &[u8], d: DiphoneVoice) -> bool
     if count == 0 {
         return false;
     }
-    if !index::has_distinct_names(entries, count) {
+    if !distinct::has_distinct_names(entries, count) {
         return false;
     }
     index::ends_within(entries, count, d.header.frames as usize)

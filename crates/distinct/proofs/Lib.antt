@@ -1,0 +1,3 @@
+-- The root of distinct's laws.
+pub mod BlockLaws
+pub mod NeighbourLaws

@@ -1,0 +1,2 @@
+-- The root of distinct's definitions.
+pub mod Blocks
