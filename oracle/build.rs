@@ -36,7 +36,7 @@ fn main() {
     }
     write(&out.join("root.rs"), &root);
 
-    for name in ["diphone_c", "probe", "probe_call", "probe_state", "probe_take", "probe_voice"] {
+    for name in ["diphone_c", "probe", "probe_call", "probe_state"] {
         let feature = format!("CARGO_FEATURE_{}", name.to_uppercase());
         if env::var_os(feature).is_some() {
             link(&manifest, name);

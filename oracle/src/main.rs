@@ -13,7 +13,7 @@ mod call;
 mod calls;
 #[cfg(feature = "probe")]
 mod codecs;
-#[cfg(any(feature = "calls", all(feature = "diphone_c", feature = "probe_voice")))]
+#[cfg(any(feature = "calls", all(feature = "diphone_c", feature = "probe_call")))]
 mod diphone_c;
 mod examples;
 mod expected;
@@ -29,15 +29,15 @@ mod lent;
 mod lines;
 #[cfg(feature = "probe_call")]
 mod marking;
-#[cfg(all(feature = "diphone_c", feature = "probe_voice"))]
+#[cfg(all(feature = "diphone_c", feature = "probe_call"))]
 mod openings;
 #[cfg(feature = "probe")]
 mod probe;
 #[cfg(feature = "probe_call")]
 mod probe_call;
-#[cfg(feature = "probe_take")]
+#[cfg(feature = "probe_call")]
 mod probe_take;
-#[cfg(feature = "probe_voice")]
+#[cfg(feature = "probe_call")]
 mod probe_voice;
 #[cfg(feature = "calls")]
 mod real;
@@ -56,7 +56,7 @@ mod store;
 #[cfg(feature = "probe")]
 mod voicecodes;
 mod voicefile;
-#[cfg(feature = "probe_take")]
+#[cfg(feature = "probe_call")]
 mod windows;
 
 use std::process::ExitCode;
@@ -97,18 +97,16 @@ fn main() -> ExitCode {
         "filters" => filters::run(&args),
         #[cfg(not(feature = "probe"))]
         "floats" | "codecs" | "filters" => return usage("built without the feature probe"),
-        #[cfg(all(feature = "diphone_c", feature = "probe_voice"))]
+        #[cfg(all(feature = "diphone_c", feature = "probe_call"))]
         "openings" => openings::run(&args),
-        #[cfg(not(all(feature = "diphone_c", feature = "probe_voice")))]
-        "openings" => return usage("built without the features diphone_c and probe_voice"),
+        #[cfg(not(all(feature = "diphone_c", feature = "probe_call")))]
+        "openings" => return usage("built without the features diphone_c and probe_call"),
         #[cfg(feature = "probe_call")]
         "marks" => marking::run(&args),
-        #[cfg(not(feature = "probe_call"))]
-        "marks" => return usage("built without the feature probe_call"),
-        #[cfg(feature = "probe_take")]
+        #[cfg(feature = "probe_call")]
         "windows" => windows::run(&args),
-        #[cfg(not(feature = "probe_take"))]
-        "windows" => return usage("built without the feature probe_take"),
+        #[cfg(not(feature = "probe_call"))]
+        "marks" | "windows" => return usage("built without the feature probe_call"),
         #[cfg(feature = "calls")]
         "calls" => calls::run(&args),
         #[cfg(feature = "calls")]

@@ -1,4 +1,4 @@
-//! The functions of libprobe_call.a.
+//! Functions of libprobe_call.a: units and marks.
 
 unsafe extern "C" {
     fn probe_pitch_marks(

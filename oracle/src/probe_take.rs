@@ -1,4 +1,4 @@
-//! The functions of libprobe_take.a.
+//! Functions of libprobe_call.a: windows and nearest periods.
 
 unsafe extern "C" {
     fn probe_window(

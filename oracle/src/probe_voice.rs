@@ -1,4 +1,4 @@
-//! The functions of libprobe_voice.a.
+//! Functions of libprobe_call.a: the periods of a voice.
 
 unsafe extern "C" {
     fn probe_period_samples(file: *const u8, file_len: usize, period: usize) -> usize;

@@ -1,10 +1,13 @@
 // Opening a voice file from C: numbers and byte slices alone. `report` is the C header's `record`,
 // which is a word of the logic.
 ghost use mathlib.Core.Path.{_≡_};
+ghost use mathlib.Core.Option.{some};
 ghost use Prim.Native.Nat.{_≤_};
 ghost use lib.ListN.{length};
+ghost use Rattle.base.specs.Lists.{orNext};
 ghost use Rattle.base.specs.Buffers.{over};
-ghost use Rattle.voice.specs.Opening.{IsOpen};
+ghost use Rattle.refusal.specs.Number.{answerOf};
+ghost use Rattle.voice.specs.Opening.{IsOpen, openingRefusal};
 ghost use Rattle.c_open.specs.Open as opens;
 use refusal::Refusal;
 use voice::DiphoneVoice;
@@ -21,27 +24,14 @@ fn write_record(voice: &[u8], d: DiphoneVoice, report: &mut [u8])
     base::bytes::write_u64(report, 48, voice::periods::decode_room(voice, d) as u64);
 }
 
-// 13 for the index and the record, which are filled otherwise.
-fn open_buffers(voice: &[u8], d: DiphoneVoice, index: &mut [u8], report: &mut [u8]) -> u32
-    requires { ⌜ IsOpen (now voice) d ⌝ }
-    ensures { λ r.
-        ⌜
-        (r ≡ answerOf
-        (opens.refusalOfOpen (now (voice .entry)) (length (now (index .entry))) (length (now (report .entry))))) ×
-        ((now (index .exit) ≡ opens.indexLeft (now (voice .entry)) (now (index .entry)) (length (now (report .entry)))) ×
-        (now (report .exit) ≡
-        opens.recordLeft (now (voice .entry)) (length (now (index .entry))) (now (report .entry))))
-        ⌝ }
+// The number where the record is too short: 1 to 7 for the voice file, else 13.
+fn short_record(voice: &[u8]) -> u32
+    ensures { λ r. ⌜ r ≡ answerOf (orNext (openingRefusal (now (voice .entry))) (some Refusal.ShortBuffer)) ⌝ }
 {
-    if index.len() / 8 < d.count {
-        return refusal::number(Refusal::ShortBuffer);
+    match opening::check(voice) {
+        Opened::Open(_) => refusal::number(Refusal::ShortBuffer),
+        Opened::Refused(cause) => refusal::number(cause),
     }
-    if report.len() < 56 {
-        return refusal::number(Refusal::ShortBuffer);
-    }
-    opening::fill_index(voice, d, index);
-    write_record(voice, d, report);
-    0
 }
 
 // Opens a voice file: 0, or the number of the refusal.
@@ -55,8 +45,14 @@ pub fn open_in_c(voice: &[u8], index: &mut [u8], report: &mut [u8]) -> u32
         opens.recordLeft (now (voice .entry)) (length (now (index .entry))) (now (report .entry))))
         ⌝ }
 {
-    match opening::check(voice) {
-        Opened::Open(d) => open_buffers(voice, d, index, report),
+    if report.len() < 56 {
+        return short_record(voice);
+    }
+    match opening::open(voice, index) {
+        Opened::Open(d) => {
+            write_record(voice, d, report);
+            0
+        }
         Opened::Refused(cause) => refusal::number(cause),
     }
 }

@@ -2,6 +2,7 @@
 // name that the archive has. `report` is the C header's `record`, which is a word of the logic.
 ghost use mathlib.Core.Path.{_≡_};
 ghost use lib.ListN.{length};
+ghost use Rattle.refusal.specs.Number.{answerOf};
 ghost use Rattle.call.specs.Numbers as numbers;
 ghost use Rattle.call.specs.Pull.{lentOf};
 ghost use Rattle.c_open.specs.Open as opens;

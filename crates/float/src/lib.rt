@@ -63,7 +63,7 @@ pub fn f32_to_i32(x: f32) -> i32
     ensures { λ r. ⌜ r ≡ toSigned 31 x ⌝ }
 {
     if x != x {
-        return 0;
+        return 0; // a NaN
     }
     if x >= 2147483648.0 {
         return 2147483647;

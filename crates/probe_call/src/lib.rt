@@ -1,5 +1,8 @@
 // Units and pitch marks, exported so that the comparison with the Rust can read them. A refusal is
 // answered by its number, anything else by 16 times a count.
+mod periods;
+mod windows;
+
 ghost use mathlib.Core.Path.{_≡_};
 ghost use Prim.Native.Nat.{_+_, _*_, _<_, _≤_};
 ghost use lib.ListN.{length};

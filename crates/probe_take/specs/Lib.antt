@@ -1,1 +1,0 @@
--- The root of probe_take's definitions: there are none.

@@ -1,1 +1,0 @@
--- The root of probe_voice's definitions: there are none.
