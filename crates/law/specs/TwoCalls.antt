@@ -9,22 +9,19 @@ use Rattle.base.specs.Buffers.{flat}
 use Rattle.base.specs.Bytes.{bytesOf}
 use Rattle.call.specs.SpokenCall.{SpokenCall, voiceIn, sheetIn, periodsIn}
 use Rattle.worked.specs.Files.{headerBytes, entryBytes, voiceFile, sheetFile}
-use Rattle.worked.specs.ProvedExamples.{exampleEntry, exampleSheet}
+use Rattle.worked.specs.ProvedExamples.{exampleEntry, exampleResidual, exampleSheet}
 use Rattle.law.specs.Longer.{Longer}
 
 -- order 1, rate 8000, coeff_min -1 and coeff_range 2 by their bits
 abbrev pub header : ℕ → List ℕ
 header frames = headerBytes frames 1 8000 0xBF800000 0x40000000
 
-abbrev pub shortResidual : List ℕ
-shortResidual = 0xFE ∷ 0xEF ∷ 0xFF ∷ 0x7E ∷ 0x6F ∷ []
-
 unfoldable pub shortVoice : List ℕ
-shortVoice = voiceFile (header 2) (flat (bytesOf 2) (40000 ∷ 30000 ∷ [])) (0 ∷ 2 ∷ 5 ∷ []) shortResidual (exampleEntry ∷ [])
+shortVoice = voiceFile (header 2) (flat (bytesOf 2) (40000 ∷ 30000 ∷ [])) (0 ∷ 2 ∷ 5 ∷ []) exampleResidual (exampleEntry ∷ [])
 
 unfoldable pub longVoice : List ℕ
 longVoice =
-    voiceFile (header 3) (flat (bytesOf 2) (40000 ∷ 30000 ∷ 50000 ∷ [])) (0 ∷ 2 ∷ 5 ∷ 9 ∷ []) (shortResidual ++ (1 ∷ 2 ∷ 3 ∷ 4 ∷ []))
+    voiceFile (header 3) (flat (bytesOf 2) (40000 ∷ 30000 ∷ 50000 ∷ [])) (0 ∷ 2 ∷ 5 ∷ 9 ∷ []) (exampleResidual ++ (1 ∷ 2 ∷ 3 ∷ 4 ∷ []))
     (entryBytes (ascii "aa-pau") 2 1 0 ∷ exampleEntry ∷ [])
 
 unfoldable pub longSheet : List ℕ

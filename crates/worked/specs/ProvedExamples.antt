@@ -59,7 +59,19 @@ zeroFloat = fin false 0 (pos 0)
 abbrev pub twoPeriods : Voice
 twoPeriods =
     record {
-      header = record { frames = 2; order = 0; rate = 8000; «coeff_min» = zeroFloat; «coeff_range» = zeroFloat; codec = 0; stretch = zeroFloat; «f0_mean» = zeroFloat; «f0_deviation» = zeroFloat; fold = 0 };
+      header =
+          record {
+            frames = 2;
+            order = 0;
+            rate = 8000;
+            «coeff_min» = zeroFloat;
+            «coeff_range» = zeroFloat;
+            codec = 0;
+            stretch = zeroFloat;
+            «f0_mean» = zeroFloat;
+            «f0_deviation» = zeroFloat;
+            fold = 0;
+          };
       lpc = [];
       offsets = bytesOf 4 0 ++ (bytesOf 4 2 ++ bytesOf 4 4);
       sizes = none;
@@ -96,7 +108,8 @@ pub record Table : Type 0 where
   -- periods 2 and 2, position 1: the second
   pub tieMovesOn : nearestPeriod twoPeriods (record { «first_period» = 0; «last_period» = 2; «target_end» = 4 }) (fin false 1 (pos 0)) ≡ 1
   -- 3 bytes into 6; 6 into 3: offset 1; from 1
-  pub centredBytes : (centred 6 (1 ∷ 2 ∷ 3 ∷ []) ≡ 255 ∷ 1 ∷ 2 ∷ 3 ∷ 255 ∷ 255 ∷ []) × (centred 3 (1 ∷ 2 ∷ 3 ∷ 4 ∷ 5 ∷ 6 ∷ []) ≡ 2 ∷ 3 ∷ 4 ∷ [])
+  pub centredBytes : (centred 6 (1 ∷ 2 ∷ 3 ∷ []) ≡ 255 ∷ 1 ∷ 2 ∷ 3 ∷ 255 ∷ 255 ∷ [])
+      × (centred 3 (1 ∷ 2 ∷ 3 ∷ 4 ∷ 5 ∷ 6 ∷ []) ≡ 2 ∷ 3 ∷ 4 ∷ [])
   -- rate 8000, targets (0, 64), (0.0625, 64): marks 125, 250, 375, 500
   pub fourMarks : pitchMarks 8000 twoTargets ≡ record { refusal = none; marks = 125 ∷ 250 ∷ 375 ∷ 500 ∷ [] }
 
@@ -106,9 +119,13 @@ pub record Table : Type 0 where
 abbrev pub exampleEntry : List ℕ
 exampleEntry = entryBytes (ascii "pau-aa") 0 1 1
 
--- 'offsets 0, 2, 5, .. and in hexadecimal residual FE EF FF 7E 6F'; of any header, with rows of 0 for an order
+-- 'in hexadecimal residual FE EF FF 7E 6F'
+abbrev pub exampleResidual : List ℕ
+exampleResidual = 0xFE ∷ 0xEF ∷ 0xFF ∷ 0x7E ∷ 0x6F ∷ []
+
+-- 'offsets 0, 2, 5'; of any header, with rows of 0 for an order
 abbrev pub voiceOfHeader : List ℕ → ℕ → List ℕ
-voiceOfHeader header order = voiceFile header (replicate (4 * order) 0) (0 ∷ 2 ∷ 5 ∷ []) (0xFE ∷ 0xEF ∷ 0xFF ∷ 0x7E ∷ 0x6F ∷ []) (exampleEntry ∷ [])
+voiceOfHeader header order = voiceFile header (replicate (4 * order) 0) (0 ∷ 2 ∷ 5 ∷ []) exampleResidual (exampleEntry ∷ [])
 
 -- 'a voice of 2 frames, rate 8000, order 0, scales 0, mu-law, no `sts.ressize`'
 abbrev pub exampleHeader : List ℕ
@@ -137,8 +154,8 @@ exampleBuffers =
       decoded = replicate 1024 0;
     }
 
--- 8000 2 5; period 1 of size 2: 8 132; period 2 of size 3: 0 -8 -132; and what the call filled: the offset of the entry's name-length byte, marks,
--- sizes, and the excitation
+-- 8000 2 5; period 1 of size 2: 8 132; period 2 of size 3: 0 -8 -132; and what the call filled: the offset of the entry's name-length byte,
+-- marks, sizes, and the excitation
 pub record Printed : Type 0 where
   -- 'it prints exactly'
   pub text : callText exampleVoice exampleSheet exampleSettings exampleBuffers ≡ ascii "8000 2 5\n1 2 8 132\n2 3 0 -8 -132\n"
@@ -152,7 +169,7 @@ pub record Printed : Type 0 where
         marks = bytesOf 4 2 ++ bytesOf 4 5;
         sizes = bytesOf 4 2 ++ bytesOf 4 3;
         rows = [];
-        excitation = 0xFE ∷ 0xEF ∷ 0xFF ∷ 0x7E ∷ 0x6F ∷ [];
+        excitation = exampleResidual;
         decoded = [];
       }
 
@@ -187,7 +204,8 @@ pub record Edges : Type 0 where
   pub leasts : (opensBy 0 8000 sixteen 0 ≡ none) × (opensBy 0 8000 pastSixteen 0 ≡ some BadHeader)
   pub ranges : (opensBy 0 8000 0 sixteen ≡ none) × (opensBy 0 8000 0 pastSixteen ≡ some BadHeader)
   -- a header of 40 bytes opens, of 39 gives 5; a trailing byte is ignored
-  pub headers : (openingRefusal (voiceOfHeader (take 40 exampleHeader) 0) ≡ none) × (openingRefusal (voiceOfHeader (take 39 exampleHeader) 0) ≡ some BadHeader)
+  pub headers : (openingRefusal (voiceOfHeader (take 40 exampleHeader) 0) ≡ none)
+      × (openingRefusal (voiceOfHeader (take 39 exampleHeader) 0) ≡ some BadHeader)
   pub trailing : openingRefusal (voiceOfHeader (exampleHeader ++ (255 ∷ [])) 0) ≡ none
   -- 4,096 segments read, 4,097 gives 8
   pub segments : (sheetRefusal (128 ∷ 32 ∷ segmentsOf 4096) ≡ none) × (sheetRefusal (129 ∷ 32 ∷ segmentsOf 4097) ≡ some BadSheet)
@@ -201,7 +219,8 @@ pub record Edges : Type 0 where
   -- 65,536 marks pass, 65,537 give 12
   pub marks : (markRefusal mostMarks (replicate 65536 7) ≡ none) × (markRefusal mostMarks (replicate 65537 7) ≡ some TooManyMarks)
   -- 12 comes only after 65,536 marks were made, and no more are ever made: by targets, and in the simple join
-  pub pitchFull : (rate : ℕ) (ts : List Target) → pitchMarks rate ts .refusal ≡ some TooManyMarks → length (pitchMarks rate ts .marks) ≡ 65536
+  pub pitchFull : (rate : ℕ) (ts : List Target) → pitchMarks rate ts .refusal ≡ some TooManyMarks
+      → length (pitchMarks rate ts .marks) ≡ 65536
   pub pitchMost : (rate : ℕ) (ts : List Target) → length (pitchMarks rate ts .marks) ≤ 65536
   pub simpleFull : (ms : List ℕ) → markRefusal mostMarks ms ≡ some TooManyMarks → 65536 < length ms
   pub simpleMost : (ms : List ℕ) → markRefusal mostMarks ms ≡ none → length ms ≤ 65536
@@ -230,7 +249,8 @@ pub record PorterErrors : Type 0 where
   -- decode then encode: 127 becomes 255
   pub notIdentity : ulawOf (sampleOf 127) ≡ 255
   -- history crosses periods
-  pub crosses : periodsFrom sumFilter [] (record { row = 0 ∷ []; bytes = 0xEF ∷ [] } ∷ record { row = 0 ∷ []; bytes = 0xFF ∷ [] } ∷ []) ≡ (132 ∷ []) ∷ (132 ∷ []) ∷ []
+  pub crosses : periodsFrom sumFilter [] (record { row = 0 ∷ []; bytes = 0xEF ∷ [] } ∷ record { row = 0 ∷ []; bytes = 0xFF ∷ [] } ∷ [])
+      ≡ (132 ∷ []) ∷ (132 ∷ []) ∷ []
   -- row value's two divisions go towards zero
   pub rowTowardsZero : (rowValue (negsuc 0) (pos 0) 0 ≡ pos 0) × (rowValue (pos 0) (negsuc 0) 2 ≡ pos 0)
   -- the predictor's sum is modulo 65,536: six products of 17152

@@ -1,6 +1,6 @@
--- A whole call and the pulls after it, as plain numbers: one equation by `refl` then compares all that the definitions say of a call with another
--- reading of document 01. The long line below opens every definition that a call computes with, so that a statement says `unfolding tried` alone;
--- a definition that comes to a call's is added there.
+-- A whole call and the pulls after it, as plain numbers: one equation by `refl` then compares all that the definitions say of a call with
+-- another reading of document 01. The long list below opens every definition that a call computes with, so that a statement, also one on
+-- a part of a call, says `unfolding tried` alone; a definition that comes to a call's is added there.
 use mathlib.Core.List.{List, [], _∷_, map}
 use Prim.Native.Nat.{ℕ}
 use lib.IntN.{ℤ}
@@ -68,7 +68,22 @@ ifSpoken (Refused r) l = []
 
 -- a voice file, a sheet, settings, the buffers as they are lent, and a sample slice for each pull
 unfoldable pub tried : List ℕ → List ℕ → Settings → Buffers → List (List ℕ) → Result
-unfolding ofBits add sub mul div lt le ne ofInt toUnsigned toSigned every firstFailing over flat upto littleEndian bytesOf low narrow decisionValue quantisedValue lastInterval ulawOf sampleOf exponent mantissa floata srMag floatb anMag wanMag signed fmult magnitude reconst adda antilog dqOf functw filtd limb filte mix functf filta filtb difm subtc filtc triga lima speedOf sezi sei dqi addb sigpkOf ugb upb zerosOf fa1 fa uga2 upa2 limc uga1 upa1 limd tone thr2 trans polesOf fresh signalsOf delayed nextOf sampleIn codesOf decodedFrom decoded same before among lead step waits complete utf8 spaceAt trimStartBy trimStart trimEnd trim magic hasMagic isWhole sectionsFrom sections find saysDiphone isDiphone headerOf inScale goodNumbers goodScales goodHeader entryAt wholeEntry entriesFrom voiceAt placesOf voiceOf lookup insert sort sorted sortedIndex offset residualOf samplesOf samplesFrom rowOf longest hasNeeded risingIn goodTables withinFrames distinct goodIndex openingRefusal indexFits vowels consonants vc isVowel _andThen_ groups count printable name isFinite finite valueOf value asF32 segment target repeated sheetFrom sheetRefusal sheetOf foldName folded nameOf inCluster firstTried entryOf samplesAt midway unitsOfPair unitsFrom unitsAll endRefusal f0At goesOn nextTime markAt climb slopeOf climbTo marksFrom pitchMarks marksOfPeriods naturalMarks naturalUnits markRefusal decodedBy sourceBy sourceOf centred nearestFrom nearestPeriod paceOf placeAfterSize periodOf takeUnit takenFrom taken cut outputs samples periodsFrom scaledBy rowValue fixedSum divided fixedNext fixedFilter floatValue floatSum floatNext floatFilter tap ringAfter ringSamples freshState advanced spoken periodsBy simplePlan modifiedPlan planBy planOf periodsTaken sizesOf rowsOf excitationOf periodsOf decodedOver filled decodeRoom needOf holds fits checkRefusal callRefusal summaryOf freshOf zeroState plannedOf buffersAfter possible nextPart pullOf pulls
+unfolding ofBits add sub mul div lt le ne ofInt toUnsigned toSigned every firstFailing over flat upto littleEndian bytesOf low
+    narrow decisionValue quantisedValue lastInterval ulawOf sampleOf exponent mantissa floata srMag floatb anMag wanMag signed fmult
+    magnitude reconst adda antilog dqOf functw filtd limb filte mix functf filta filtb difm subtc filtc triga lima speedOf sezi sei
+    dqi addb sigpkOf ugb upb zerosOf fa1 fa uga2 upa2 limc uga1 upa1 limd tone thr2 trans polesOf fresh signalsOf delayed nextOf
+    sampleIn codesOf decodedFrom decoded same before among lead step waits complete utf8 spaceAt trimStartBy trimStart trimEnd trim
+    magic hasMagic isWhole sectionsFrom sections find saysDiphone isDiphone headerOf inScale goodNumbers goodScales goodHeader
+    entryAt wholeEntry entriesFrom voiceAt placesOf voiceOf lookup insert sort sorted sortedIndex offset residualOf samplesOf
+    samplesFrom rowOf longest hasNeeded risingIn goodTables withinFrames distinct goodIndex openingRefusal indexFits vowels
+    consonants vc isVowel _andThen_ groups count printable name isFinite finite valueOf value asF32 segment target repeated
+    sheetFrom sheetRefusal sheetOf foldName folded nameOf inCluster firstTried entryOf samplesAt midway unitsOfPair unitsFrom
+    unitsAll endRefusal f0At goesOn nextTime markAt climb slopeOf climbTo marksFrom pitchMarks marksOfPeriods naturalMarks
+    naturalUnits markRefusal decodedBy sourceBy sourceOf centred nearestFrom nearestPeriod paceOf placeAfterSize periodOf takeUnit
+    takenFrom taken cut outputs samples periodsFrom scaledBy rowValue fixedSum divided fixedNext fixedFilter floatValue floatSum
+    floatNext floatFilter tap ringAfter ringSamples freshState advanced spoken periodsBy simplePlan modifiedPlan planBy planOf
+    periodsTaken sizesOf rowsOf excitationOf periodsOf decodedOver filled decodeRoom needOf holds fits checkRefusal callRefusal
+    summaryOf freshOf zeroState plannedOf buffersAfter possible nextPart pullOf pulls
 tried file sheet o b ds =
     let v = voiceOf file in
     let s = sheetOf sheet in
