@@ -38,7 +38,7 @@ use Rattle.call.proofs.FilledLaws.{periods-low, periods-back}
 use Rattle.call.proofs.SpokenLaws.{opened, planned, fresh}
 use Rattle.call.proofs.LentLaws.{lentTaken, lent-filled}
 use Rattle.call.specs.SpokenCall.{SpokenCall, LentBytes, lentBy, voiceIn, sheetIn, periodsIn, samplesIn, bytesAfter, readAs, stateAfter, pullsAfter}
-use Rattle.law.specs.Longer.{Longer, BeginsWith}
+use Rattle.law.specs.Longer.{SameSettings, Longer, BeginsWith}
 use Rattle.law.proofs.InC.{spoken-in-c, in-c-spoken, made-in-c}
 use Rattle.law.proofs.Inhabited.{made-exists}
 use Rattle.law.proofs.InhabitedInC.{made-in-c-exists}
@@ -90,14 +90,24 @@ whole-lists-done c ds s =
 
 -- ---- a longer sheet on an extended voice
 
+-- what the settings of two calls share decides their samples
+settings-alike : (v : Voice) (s : Sheet) (p o : Settings) → SameSettings p o → periodsOf v s p ≡ periodsOf v s o
+unfolding periodsOf periodsTaken planOf
+settings-alike v s p o e =
+    let j = e .join in
+    let f = e .filter in
+    let g = e .fold in
+    rw (j, f, g)
+
 -- the periods of the first call are the first periods of the second, sample for sample
 pub extension : (c d : SpokenCall) → Longer d c → BeginsWith d c (periodsIn d) (periodsIn c)
 extension c d l =
     let h = periods-ahead (voiceIn c) (voiceIn d) (l .extends) (opened c) (opened d) (sheetIn c) (sheetIn d) (l .begins) (sheet-refers (c .sheetFile)) (c .settings) (l .found) (planned c) in
     let e = periods-equal (voiceIn c) (voiceIn d) (l .extends) (opened c) (opened d) (sheetIn c) (sheetIn d) (l .begins) (sheet-refers (c .sheetFile)) (c .settings) (l .found) (planned c) in
+    let alike = settings-alike (voiceIn d) (sheetIn d) (d .settings) (c .settings) (l .settings) in
     record {
-      heads = subst (λ (o : Settings). Heads (periodsIn c) (periodsOf (voiceIn d) (sheetIn d) o)) (sym (l .settings)) h;
-      equal = λ q. ap (λ (o : Settings). periodsOf (voiceIn d) (sheetIn d) o) (l .settings) ∙ ap (λ (s : Sheet). periodsOf (voiceIn d) s (c .settings)) q ∙ e;
+      heads = subst (λ (ps : List (List ℕ)). Heads (periodsIn c) ps) (sym alike) h;
+      equal = λ q. alike ∙ ap (λ (s : Sheet). periodsOf (voiceIn d) s (c .settings)) q ∙ e;
     }
 
 -- so with all samples joined

@@ -57,7 +57,7 @@ two-calls =
       longFiles = (refl, refl);
       longer =
           record {
-            settings = refl;
+            settings = record { join = refl; filter = refl; fold = refl };
             extends =
                 record {
                   rate = refl;

@@ -6,12 +6,20 @@ use Rattle.base.specs.Lists.{Heads}
 use Rattle.voice.specs.Extends.{Extends}
 use Rattle.sheet.specs.Begins.{Begins}
 use Rattle.units.specs.Selecting.{firstTriedFound}
+use Rattle.call.specs.declared.Settings.{Settings}
+use Rattle.call.specs.Call.{filterIn}
 use Rattle.call.specs.SpokenCall.{SpokenCall, voiceIn, sheetIn}
+
+-- 'under the same settings': the join, the filter that a call ends up with, and fold
+pub record SameSettings (p o : Settings) : Type 0 where
+  pub join : p .join ≡ o .join
+  pub filter : filterIn p ≡ filterIn o
+  pub fold : p .fold ≡ o .fold
 
 -- 'Now take two spoken calls under the same settings, let the second voice extend the first and the second sheet begin with all segments
 -- and targets of the first. If each pair of the first sheet finds its first-tried name in the first voice ..'
 pub record Longer (d c : SpokenCall) : Type 0 where
-  pub settings : d .settings ≡ c .settings
+  pub settings : SameSettings (d .settings) (c .settings)
   pub extends : Extends (voiceIn d) (voiceIn c)
   pub begins : Begins (sheetIn d) (sheetIn c)
   pub found : firstTriedFound (voiceIn c) (c .settings .fold) (sheetIn c .segments) ≡ true
