@@ -92,7 +92,7 @@ class Output(InFolder):
 
     def test_picture(self):
         """The picture in docs/ shows what is spoken."""
-        command = [REPO / "tools/draw", YARD[1]]
+        command = [REPO / "tools/draw", YARD[1], "--voice", YARD[0]]
         drawn = subprocess.run(command, input=run(*YARD)[1], stdout=subprocess.PIPE, check=True).stdout
         self.assertEqual(drawn, (REPO / "docs/sheet-to-sound.svg").read_bytes())
 

@@ -8,6 +8,7 @@ import random
 import re
 import struct
 import subprocess
+import sys
 import tempfile
 import unittest
 from pathlib import Path
@@ -32,7 +33,7 @@ def loaded(name):
     return module
 
 
-TOOLS = {name: loaded(name) for name in ("sheet", "voice-info")}
+TOOLS = {name: loaded(name) for name in ("sheet", "voice-info", "draw")}
 
 
 def run(tool, *words):
@@ -43,10 +44,10 @@ def run(tool, *words):
     return status, out.getvalue(), err.getvalue()
 
 
-def run_alone(tool, *words, given=b""):
+def run_alone(tool, *words, given=b"", **more):
     """The same, run as a program."""
-    command = [REPO / "tools" / tool, *words]
-    done = subprocess.run(command, input=given, stdout=subprocess.PIPE, stderr=subprocess.PIPE, check=False)
+    command = [sys.executable, "-B", REPO / "tools" / tool, *words]
+    done = subprocess.run(command, input=given, stdout=subprocess.PIPE, stderr=subprocess.PIPE, check=False, **more)
     return done.returncode, done.stdout, done.stderr.decode()
 
 
@@ -224,6 +225,25 @@ class Sheet(unittest.TestCase):
             self.assertEqual(run("sheet", *words)[0], 2, words)
         self.assertEqual(run("sheet", "decode", "/nowhere/at-all")[0], 1)
 
+    def test_byte_order_mark(self):
+        for data in ("\ufeffsegment n - -\n".encode(), "segment n - -\n".encode("utf-16")):
+            status, _, message = encode(data)
+            self.assertEqual(status, 1)
+            self.assertIn("byte order mark (BOM)", message)
+
+    def test_file_that_failed(self):
+        """An error names the file that it is about."""
+        source = str(EXAMPLES / "yard.txt")
+        done = run_alone("sheet", "encode", source, "/nowhere/at-all.sht")
+        self.assertEqual(done, (1, b"", "sheet: /nowhere/at-all.sht: No such file or directory\n"))
+        done = run_alone("sheet", "encode", "/nowhere/at-all.txt", "-")
+        self.assertEqual(done, (1, b"", "sheet: /nowhere/at-all.txt: No such file or directory\n"))
+        status, _, message = run("sheet", "decode", source)
+        self.assertEqual(status, 1)
+        self.assertIn(f"sheet: {source}: refused 8 at byte 7: ", message)
+        self.assertIn("it looks like a text, of which encode makes a sheet", message)
+        self.assertEqual(run_alone("sheet", "decode", "-", given=b"\2")[2], "sheet: standard input: refused 8 at byte 1: the sheet is cut short\n")
+
 
 class VoiceInfo(unittest.TestCase):
     def info(self, data, *words):
@@ -277,17 +297,127 @@ class VoiceInfo(unittest.TestCase):
         self.assertEqual(run("voice-info", "/nowhere/at-all")[0], 1)
 
 
+YARD = str(EXAMPLES / "yard.sht")
+SPOKEN = b"8000 7 14\n" + b"".join(b"%d 2 100 -100\n" % number for number in range(1, 8))
+DRAW = TOOLS["draw"]
+
+
+def spoken(samples, rate=8000, size=80):
+    """A call as the player prints it, in periods of a size."""
+    periods = [samples[at : at + size] for at in range(0, len(samples), size)]
+    lines = [f"{rate} {len(periods)} {len(samples)}"]
+    return lines + [" ".join(map(str, [number, len(period), *period])) for number, period in enumerate(periods, 1)]
+
+
+def long_call(seconds):
+    """A call of many short phones and targets."""
+    phones = [Segment(b"pau", formats.real(number * 0.05 + 0.05)) for number in range(seconds * 20)]
+    targets = [Target(formats.real(number * 0.05), formats.real(100 + number % 7 / 3)) for number in range(seconds * 20)]
+    return DRAW.Call((phones, targets), spoken([32767, -32768] * (4000 * seconds)))
+
+
 class Draw(unittest.TestCase):
+    def drawn(self, call, start=0, end=None, width=960, zoom=0):
+        return ElementTree.fromstring(DRAW.drawn(call, start, end or call.length, width, zoom))
+
     def test_parts(self):
-        lines = b"8000 7 14\n" + b"".join(b"%d 2 100 -100\n" % number for number in range(1, 8))
-        status, text, message = run_alone("draw", str(EXAMPLES / "yard.sht"), "--zoom", "0", given=lines)
+        status, text, message = run_alone("draw", YARD, "--zoom", "0", given=SPOKEN)
         self.assertEqual((status, message), (0, ""))
         kinds = collections.Counter(part.get("class") for part in ElementTree.fromstring(text))
+        found = [kinds[kind] for kind in ("dot", "mark", "wave")]
+        self.assertEqual(found, [4, 7 + 5, 2])
+        picture = self.drawn(DRAW.Call(formats.read_sheet(Path(YARD).read_bytes()), spoken([100, -100] * 4400)))
+        kinds = collections.Counter(part.get("class") for part in picture)
         found = [kinds[kind] for kind in ("box", "half", "other", "dot", "mark", "wave", "body", "end")]
-        self.assertEqual(found, [9, 8, 8, 5, 7 + 5, 1, 1, 8])
+        self.assertEqual(found, [9, 8, 8, 5, 110 + 5, 1, 1, 8])
 
-    def test_no_call(self):
-        self.assertEqual(run_alone("draw", str(EXAMPLES / "yard.sht"))[:2], (1, b""))
+    def test_nothing_leaves(self):
+        """Points and boxes lie on the paper, waves within their bands, for the loudest samples too."""
+        for seconds, width in ((1, 960), (5, 300), (30, 2000)):
+            picture = self.drawn(long_call(seconds), width=width)
+            right, bottom = int(picture.get("width")), int(picture.get("height"))
+            self.assertEqual(right, width)
+            tops = {}
+            for part in picture:
+                points = [tuple(map(float, point.split(","))) for point in part.get("points", "").split()]
+                points += [(float(part.get(x)), float(part.get(y))) for x, y in (("x1", "y1"), ("x", "y")) if part.get(x)]
+                for x, y in points:
+                    self.assertTrue(0 <= x <= right and 0 <= y <= bottom, part.attrib)
+                if part.get("class") == "body":
+                    tops[min(y for _, y in points)] = max(y for _, y in points)
+            heights = {1: 140, 5: 84, 30: 70}
+            self.assertTrue(all(abs(low - top - heights[seconds]) <= 0.2 for top, low in tops.items()), tops)
+
+    def test_labels_apart(self):
+        for seconds in (1, 5, 30):
+            lines = collections.defaultdict(list)
+            for part in self.drawn(long_call(seconds)).iter("{http://www.w3.org/2000/svg}text"):
+                kind, x, length = part.get("class"), float(part.get("x")), DRAW.width_of(part.text, part.get("class"))
+                shift = 0 if "left" in kind else length if "right" in kind or "name" in kind else length / 2
+                lines[part.get("y")].append((x - shift, x - shift + length))
+            for y, places in lines.items():
+                places.sort()
+                self.assertTrue(all(a[1] <= b[0] + 1 for a, b in zip(places, places[1:])), (seconds, y, places))
+
+    def test_axis(self):
+        texts = [part.text for part in self.drawn(long_call(1)) if part.get("class") == "note"]
+        self.assertEqual([text for text in texts if text in ("0.2", "1600", "1.0", "8000")], ["0.2", "1600", "1.0", "8000"])
+        peaks = [part.text for part in self.drawn(long_call(1)) if part.get("class") == "note right"]
+        self.assertEqual(peaks[:2], ["32768", "-32768"])
+        self.assertEqual(DRAW.shown(1 / 3), "0.3")
+
+    def test_part(self):
+        picture = self.drawn(long_call(30), 3.1, 4.3)
+        self.assertIn("drawn from 3.1 to 4.3 seconds", "".join(picture.itertext()))
+        kinds = collections.Counter(part.get("class") for part in picture)
+        self.assertEqual((kinds["box"], kinds["mark"]), (24, 120))
+        self.assertIn("an overview", "".join(self.drawn(long_call(30)).itertext()))
+
+    def test_simple_join(self):
+        """Phones stand where the join puts them: the example has periods of 2 and 3 samples, and no times."""
+        files = [(EXAMPLES / f"example.{kind}").read_bytes() for kind in ("flv", "sht")]
+        call = DRAW.Call(formats.read_sheet(files[1]), ["8000 2 5", "1 2 8 132", "2 3 0 -8 -132"], DRAW.Voice(files[0]))
+        self.assertTrue(call.simple)
+        self.assertEqual(call.phones, [("pau", 0, 2 / 8000), ("aa", 2 / 8000, 5 / 8000)])
+        self.assertEqual([unit.name for unit in call.units], ["pau-aa"])
+        self.assertEqual(len(self.drawn(call).findall(".//*[@class='box']")), 2)
+        other = DRAW.Call(formats.read_sheet(files[1]), ["8000 1 5", "1 5 0 0 0 0 0"], DRAW.Voice(files[0]))
+        self.assertFalse(other.simple)
+
+    def test_files(self):
+        """A picture beside which a PNG may stand, and none where no converter is."""
+        with tempfile.TemporaryDirectory() as folder:
+            out = Path(folder) / "a b.svg"
+            done = run_alone("draw", YARD, "--out", str(out), given=SPOKEN, env={"PATH": folder})
+            self.assertEqual(done[:2], (0, b""))
+            self.assertTrue(done[2].startswith(f"draw: {out}"), done[2])
+            self.assertEqual(out.read_bytes(), run_alone("draw", YARD, given=SPOKEN)[1])
+
+    def test_wrong_input(self):
+        """One line on standard error."""
+        voice = str(EXAMPLES / "yard.flv")
+        for words, given in [
+            ((YARD,), b""),
+            ((YARD,), b"8000 0 0\n"),
+            ((YARD,), b"8000 1\n"),
+            ((YARD,), b"0 1 1\n1 1 1\n"),
+            ((YARD,), b"8000 1 1\n"),
+            ((YARD,), b"8000 1 2\n1 2 1\n"),
+            ((YARD,), b"8000 1 2\n1 1 1\n"),
+            ((YARD,), b"8000 1 1\n1 1 x\n"),
+            ((YARD,), b"\xff\n"),
+            ((voice,), SPOKEN),
+            (("/nowhere/at-all",), SPOKEN),
+            ((YARD, "--voice", YARD), SPOKEN),
+            ((YARD, "--voice", "/nowhere/at-all"), SPOKEN),
+            ((YARD, "--from", "9"), SPOKEN),
+            ((YARD, "--out", "/nowhere/at-all.svg"), SPOKEN),
+        ]:
+            status, text, message = run_alone("draw", *words, given=given)
+            self.assertEqual((status, text, message.count("\n")), (1, b"", 1), (words, given, message))
+            self.assertTrue(message.startswith("draw: "), message)
+        for words in [(), (YARD, "--from", "2", "--to", "1"), (YARD, "--width", "1"), (YARD, "--out", "a.png")]:
+            self.assertEqual(run_alone("draw", *words, given=SPOKEN)[0], 2, words)
 
 
 class Examples(unittest.TestCase):
