@@ -1,5 +1,8 @@
 /* The diphone voice, for programs in C on x86-64. Link libdiphone_c.a.
  *
+ * Any number of threads may call at once, each with buffers of its own; a voice and a sheet may be
+ * shared, as they are only read.
+ *
  * Every function takes numbers and byte buffers alone, ends for every input, allocates nothing and
  * keeps nothing between calls. A buffer is a pointer and a number of bytes; with 0 bytes the pointer
  * may be null. No alignment is asked for. Buffers must not overlap. Numbers of several bytes are
@@ -13,6 +16,8 @@
 
 #include <stddef.h>
 #include <stdint.h>
+
+#define DIPHONE_VERSION "1.0"
 
 #ifdef __cplusplus
 #define DIPHONE_RESTRICT
@@ -39,8 +44,9 @@ enum {
     DIPHONE_TOO_MANY_MARKS = 12, /* there are more than 65,536 pitch marks */
     DIPHONE_SHORT_BUFFER = 13,   /* a buffer is shorter than stated */
     DIPHONE_SHORT_SLICE = 14,    /* the sample slice is shorter than the next period */
-    DIPHONE_BAD_STATE = 15       /* the filter state is impossible, or the rows end within the
+    DIPHONE_BAD_STATE = 15,      /* the filter state is impossible, or the rows end within the
                                     next one */
+    DIPHONE_LAST_REFUSAL = 15     /* the last of them */
 };
 
 /* The record of a voice: the 40 bytes of its section sts.header as stored, then two numbers of

@@ -3,6 +3,7 @@
 #include <errno.h>
 #include <stdio.h>
 #include <stdlib.h>
+#include <string.h>
 
 int allocate(struct bytes *bytes, uint64_t count, size_t width)
 {
@@ -57,21 +58,24 @@ static int read_stream(struct bytes *bytes, FILE *stream)
     return 0;
 }
 
-int read_file(struct bytes *bytes, const char *name)
+int read_input(struct input *input, const char *name)
 {
-    FILE *stream = fopen(name, "rb");
+    int standard = strcmp(name, "-") == 0;
+    FILE *stream = standard ? stdin : fopen(name, "rb");
     int status;
     int reason;
 
-    bytes->at = NULL;
-    bytes->length = 0;
+    input->name = standard ? "standard input" : name;
+    input->bytes.at = NULL;
+    input->bytes.length = 0;
     if (stream == NULL)
         return -1;
-    status = read_stream(bytes, stream);
+    status = read_stream(&input->bytes, stream);
     reason = errno;
-    fclose(stream);
+    if (!standard)
+        fclose(stream);
     if (status != 0) {
-        release(bytes);
+        release(&input->bytes);
         errno = reason;
     }
     return status;

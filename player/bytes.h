@@ -16,8 +16,14 @@ int allocate(struct bytes *bytes, uint64_t count, size_t width);
 
 void release(struct bytes *bytes);
 
-/* Reads a whole file. Answers 0, or -1 with errno set. */
-int read_file(struct bytes *bytes, const char *name);
+/* A file that was read, under the name that a person knows it by. */
+struct input {
+    const char *name;
+    struct bytes bytes;
+};
+
+/* Reads a whole file, or standard input where the name is a hyphen. Answers 0, or -1 with errno set. */
+int read_input(struct input *input, const char *name);
 
 uint32_t u32_at(const uint8_t *bytes, size_t place);
 uint64_t u64_at(const uint8_t *bytes, size_t place);

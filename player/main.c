@@ -1,4 +1,7 @@
 /* Speaks a call sheet with a voice file: see print_usage in options.c. */
+#include "files.h"
+#include "gain.h"
+#include "notes.h"
 #include "options.h"
 #include "refusal.h"
 #include "speech.h"
@@ -14,28 +17,39 @@ static int fail(const char *what, const char *name)
     return 1;
 }
 
+/* A call on its way: what was asked for, what was read, what is spoken. */
+struct call {
+    const struct options *options;
+    struct input voice, sheet;
+    struct speech speech;
+};
+
 /* Says why there is no call. Answers the exit status. */
-static int refuse(uint32_t number, const struct options *options)
+static int refuse(uint32_t number, const struct call *call)
 {
     if (number == NO_MEMORY)
         fprintf(stderr, "player: not enough memory for this call\n");
     else
-        print_refusal(number, options->voice, options->sheet);
+        print_refusal(number, &call->voice, &call->sheet);
     return 1;
 }
 
 /* Pulls period by period until the engine says done. Answers 0 or a refusal's number. */
-static uint32_t pull_all(struct speech *speech, FILE *stream, enum output output)
+static uint32_t pull_all(struct call *call, FILE *stream, double factor)
 {
+    struct speech *speech = &call->speech;
+    enum output output = call->options->output;
     uint64_t number = 1;
     int64_t size;
 
     write_start(stream, output, speech);
     for (size = pull_period(speech); size >= 0; size = pull_period(speech)) {
+        if (factor != 1)
+            amplify(speech->samples.at, (size_t)size, factor);
         write_period(stream, output, number, speech->samples.at, (size_t)size);
         number += 1;
     }
-    return size == -1 ? 0 : (uint32_t)-size;
+    return size == DIPHONE_DONE ? 0 : (uint32_t)-size;
 }
 
 /* Closes the file. Answers whether all that was written arrived. */
@@ -48,55 +62,82 @@ static int close_output(FILE *stream)
 
 static void report(const struct speech *speech, const char *name)
 {
-    printf("%s: %.3f seconds, %llu samples at %llu a second, %llu periods\n", name,
-           (double)speech->length / (double)speech->rate, (unsigned long long)speech->length,
-           (unsigned long long)speech->rate, (unsigned long long)speech->periods);
+    fprintf(stderr, "%s: %.3f seconds, %llu samples at %llu a second, %llu periods\n", name,
+            (double)speech->length / (double)speech->rate, (unsigned long long)speech->length,
+            (unsigned long long)speech->rate, (unsigned long long)speech->periods);
 }
 
-static int write_speech(struct speech *speech, const struct options *options)
+/* The file that is written, or NULL for standard output. */
+static const char *file_of(const struct options *options)
 {
-    const int wav = options->output == OUTPUT_WAV;
-    const char *name = wav ? options->wav : "standard output";
-    FILE *stream = wav ? fopen(options->wav, "wb") : stdout;
-    uint32_t refusal;
+    if (options->output != OUTPUT_WAV || strcmp(options->wav, "-") == 0)
+        return NULL;
+    return options->wav;
+}
 
+static int write_speech(struct call *call)
+{
+    const char *file = file_of(call->options);
+    const char *name = file == NULL ? "standard output" : file;
+    double factor;
+    uint32_t refusal = find_factor(&factor, &call->speech, call->options->gain);
+    FILE *stream;
+
+    if (refusal != 0)
+        return refuse(refusal, call);
+    stream = file == NULL ? stdout : fopen(file, "wb");
     if (stream == NULL)
         return fail("write", name);
-    refusal = pull_all(speech, stream, options->output);
-    if (!close_output(stream))
-        return fail("write", name);
+    refusal = pull_all(call, stream, factor);
+    if (!close_output(stream)) {
+        int status = fail("write", name);
+        if (file != NULL)
+            remove_unfinished(file);
+        return status;
+    }
+    if (refusal != 0 && file != NULL)
+        remove_unfinished(file);
     if (refusal != 0)
-        return refuse(refusal, options);
-    if (wav)
-        report(speech, name);
+        return refuse(refusal, call);
+    if (call->options->output == OUTPUT_WAV)
+        report(&call->speech, name);
     return 0;
 }
 
-static int speak(const struct bytes *voice, const struct bytes *sheet,
-                 const struct options *options)
+static int speak(struct call *call)
 {
-    struct speech speech;
-    uint32_t refusal = plan_speech(&speech, voice, sheet, options);
-    int status = refusal == 0 ? write_speech(&speech, options) : refuse(refusal, options);
+    uint32_t refusal = plan_speech(&call->speech, &call->voice.bytes, &call->sheet.bytes, call->options);
+    int status;
 
-    release_speech(&speech);
+    if (refusal != 0) {
+        status = refuse(refusal, call);
+    } else {
+        note_empty(&call->speech, &call->sheet, call->options);
+        note_pairs(&call->speech, &call->voice, &call->sheet, call->options);
+        status = write_speech(call);
+    }
+    release_speech(&call->speech);
     return status;
 }
 
 static int speak_files(const struct options *options)
 {
-    struct bytes voice;
-    struct bytes sheet;
+    struct call call = {.options = options};
+    const char *file = file_of(options);
     int status;
 
-    if (read_file(&voice, options->voice) != 0)
-        return fail("read", options->voice);
-    if (read_file(&sheet, options->sheet) != 0)
-        status = fail("read", options->sheet);
+    if (file != NULL && (is_same_file(file, options->voice) || is_same_file(file, options->sheet))) {
+        fprintf(stderr, "player: cannot write %s: it is read too\n", file);
+        return 1;
+    }
+    if (read_input(&call.voice, options->voice) != 0)
+        return fail("read", call.voice.name);
+    if (read_input(&call.sheet, options->sheet) != 0)
+        status = fail("read", call.sheet.name);
     else
-        status = speak(&voice, &sheet, options);
-    release(&sheet);
-    release(&voice);
+        status = speak(&call);
+    release(&call.sheet.bytes);
+    release(&call.voice.bytes);
     return status;
 }
 
@@ -108,9 +149,11 @@ int main(int count, char **words)
         print_usage(stderr);
         return 2;
     }
-    if (options.help) {
+    if (options.task == TASK_SPEAK)
+        return speak_files(&options);
+    if (options.task == TASK_HELP)
         print_usage(stdout);
-        return 0;
-    }
-    return speak_files(&options);
+    else
+        printf("player %s\n", DIPHONE_VERSION);
+    return close_output(stdout) ? 0 : fail("write", "standard output");
 }

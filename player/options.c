@@ -1,6 +1,9 @@
 #include "options.h"
 
+#include <stdlib.h>
 #include <string.h>
+
+#define MOST_GAIN 60
 
 static const char *const JOINS[] = {"none", "simple", "modified", NULL};
 static const char *const FILTERS[] = {"fixed", "float", NULL};
@@ -8,17 +11,21 @@ static const char *const FILTERS[] = {"fixed", "float", NULL};
 void print_usage(FILE *stream)
 {
     fputs("usage: player VOICE SHEET [--join none|simple|modified] [--filter fixed|float] [--fold]\n"
-          "              [--raw | --wav FILE]\n"
+          "              [--gain DB] [--raw | --wav FILE]\n"
           "\n"
-          "Speaks the call sheet SHEET with the voice file VOICE.\n"
+          "Speaks the call sheet SHEET with the voice file VOICE. A file named - is standard input;\n"
+          "after -- every word is a file.\n"
           "  --join    how units are joined (modified)\n"
           "  --filter  the arithmetic of the filter (fixed)\n"
           "  --fold    speak ah as aa\n"
-          "  --wav     write a WAV file\n"
+          "  --gain    louder by DB decibels, or softer below 0; less where samples would clip (0)\n"
+          "  --wav     write a WAV file; with - on standard output\n"
           "  --raw     write 16-bit little-endian samples on standard output,\n"
           "            for: aplay -f S16_LE -r RATE\n"
+          "  --help, --version\n"
           "Without --wav and --raw the call is printed as text: a line with rate, periods and samples,\n"
-          "then for each period its number, its size and its samples.\n"
+          "then for each period its number, its size and its samples. Reports and notes go to standard\n"
+          "error.\n"
           "\n"
           "Exit status: 0; 1 if the call is refused or a file cannot be read or written; 2 if the\n"
           "command line is wrong.\n",
@@ -53,35 +60,65 @@ static int read_setting(uint32_t *setting, const char *const *names, const char 
     return 0;
 }
 
-/* An option that takes a word. */
-static int read_pair(struct options *options, const char *option, const char *word)
+static int read_gain(double *gain, const char *word)
 {
-    if (word == NULL)
-        return complain("a word is missing after", option);
-    if (strcmp(option, "--join") == 0)
-        return read_setting(&options->join, JOINS, word);
-    if (strcmp(option, "--filter") == 0)
-        return read_setting(&options->filter, FILTERS, word);
-    options->wav = word;
+    char *end;
+
+    *gain = strtod(word, &end);
+    if (end == word || *end != '\0' || !(*gain >= -MOST_GAIN && *gain <= MOST_GAIN))
+        return complain("no gain from -60 to 60 decibels", word);
     return 0;
 }
 
-static int takes_word(const char *option)
-{
-    static const char *const OPTIONS[] = {"--join", "--filter", "--wav", NULL};
+/* ---- options that take a word */
 
-    return place_in(OPTIONS, option) >= 0;
+enum { JOIN, FILTER, GAIN, WAV };
+static const char *const OPTIONS[] = {"--join", "--filter", "--gain", "--wav", NULL};
+
+static int read_pair(struct options *options, int option, const char *word)
+{
+    if (word == NULL || *word == '\0')
+        return complain("a word is missing after", OPTIONS[option]);
+    switch (option) {
+    case JOIN:
+        return read_setting(&options->join, JOINS, word);
+    case FILTER:
+        return read_setting(&options->filter, FILTERS, word);
+    case GAIN:
+        return read_gain(&options->gain, word);
+    default:
+        options->wav = word;
+        return 0;
+    }
 }
 
-/* An option that stands alone. */
+/* An option as in --join=simple: its number and its word, or -1. */
+static int joined_option(const char *word, const char **value)
+{
+    int option;
+
+    for (option = 0; OPTIONS[option] != NULL; option += 1) {
+        size_t length = strlen(OPTIONS[option]);
+        if (strncmp(word, OPTIONS[option], length) == 0 && word[length] == '=') {
+            *value = word + length + 1;
+            return option;
+        }
+    }
+    return -1;
+}
+
+/* ---- options that stand alone, and files */
+
 static int read_flag(struct options *options, const char *option)
 {
     if (strcmp(option, "--fold") == 0)
         options->fold = 1;
     else if (strcmp(option, "--raw") == 0)
         options->output = OUTPUT_RAW;
-    else if (strcmp(option, "--help") == 0)
-        options->help = 1;
+    else if (strcmp(option, "--help") == 0 || strcmp(option, "-h") == 0)
+        options->task = TASK_HELP;
+    else if (strcmp(option, "--version") == 0)
+        options->task = TASK_VERSION;
     else
         return complain("no such option", option);
     return 0;
@@ -102,13 +139,18 @@ static int read_file_name(struct options *options, const char *word)
 static int read_word(struct options *options, char **words, int *place)
 {
     const char *word = words[*place];
+    const char *value;
+    int option = place_in(OPTIONS, word);
 
     *place += 1;
-    if (takes_word(word)) {
-        const char *next = words[*place];
-        *place += next != NULL;
-        return read_pair(options, word, next);
+    if (option >= 0) {
+        value = words[*place];
+        *place += value != NULL;
+        return read_pair(options, option, value);
     }
+    option = joined_option(word, &value);
+    if (option >= 0)
+        return read_pair(options, option, value);
     if (word[0] == '-' && word[1] != '\0')
         return read_flag(options, word);
     return read_file_name(options, word);
@@ -117,10 +159,12 @@ static int read_word(struct options *options, char **words, int *place)
 /* Whether the words make sense together. */
 static int check_options(struct options *options)
 {
-    if (options->help)
+    if (options->task != TASK_SPEAK)
         return 0;
     if (options->sheet == NULL)
         return complain("missing", options->voice == NULL ? "VOICE and SHEET" : "SHEET");
+    if (strcmp(options->voice, "-") == 0 && strcmp(options->sheet, "-") == 0)
+        return complain("one file only can be standard input", "-");
     if (options->wav != NULL && options->output == OUTPUT_RAW)
         return complain("one of these only", "--raw, --wav");
     if (options->wav != NULL)
@@ -130,12 +174,21 @@ static int check_options(struct options *options)
 
 int read_options(struct options *options, int count, char **words)
 {
-    static const struct options DEFAULTS = {NULL, NULL, 2, 0, 0, OUTPUT_LIST, NULL, 0};
+    static const struct options DEFAULTS = {.join = 2, .output = OUTPUT_LIST, .task = TASK_SPEAK};
     int place = 1;
+    int files = 0; /* whether all words from here on are files */
 
     *options = DEFAULTS;
-    while (place < count)
-        if (read_word(options, words, &place) != 0)
+    while (place < count) {
+        int status;
+        if (!files && strcmp(words[place], "--") == 0) {
+            files = 1;
+            place += 1;
+            continue;
+        }
+        status = files ? read_file_name(options, words[place++]) : read_word(options, words, &place);
+        if (status != 0)
             return -1;
+    }
     return check_options(options);
 }

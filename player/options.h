@@ -7,15 +7,19 @@
 
 enum output { OUTPUT_LIST, OUTPUT_RAW, OUTPUT_WAV };
 
+/* What the player is asked for. */
+enum task { TASK_SPEAK, TASK_HELP, TASK_VERSION };
+
 struct options {
-    const char *voice;
+    const char *voice; /* a file, or - for standard input */
     const char *sheet;
     uint32_t join;   /* 0 none, 1 simple, 2 modified */
     uint32_t filter; /* 0 fixed, 1 float */
     uint32_t fold;   /* 0 off, 1 on */
+    double gain;     /* in decibels */
     enum output output;
-    const char *wav; /* the file of OUTPUT_WAV */
-    int help;
+    const char *wav; /* the file of OUTPUT_WAV, or - for standard output */
+    enum task task;
 };
 
 /* Reads the command line. Answers 0, or says on standard error what is wrong and answers -1. */

@@ -1,5 +1,8 @@
 #include "refusal.h"
 
+#include "diphone.h"
+#include "sheet.h"
+
 #include <stdio.h>
 
 /* What each number says: of the voice up to 7, then of the sheet up to 12, then of the player. */
@@ -22,16 +25,37 @@ static const char *const SENTENCES[] = {
     "the filter state is impossible, or the coefficients are cut short",
 };
 
-#define LAST_OF_VOICE 7
-#define LAST_OF_SHEET 12
-#define LAST 15
+_Static_assert(sizeof SENTENCES / sizeof *SENTENCES == DIPHONE_LAST_REFUSAL + 1,
+               "a sentence for each refusal");
 
-void print_refusal(uint32_t number, const char *voice, const char *sheet)
+#define LAST_OF_VOICE DIPHONE_BAD_INDEX
+#define LAST_OF_SHEET DIPHONE_TOO_MANY_MARKS
+
+/* Where and why a sheet cannot be read, behind the sentence. */
+static void print_flaw(const struct bytes *sheet)
+{
+    struct phones phones;
+    struct flaw flaw;
+
+    if (read_phones(&phones, sheet, &flaw) == 0)
+        release_phones(&phones);
+    else if (flaw.number != 0)
+        fprintf(stderr, ", at byte %llu: %s", (unsigned long long)flaw.place, flaw.reason);
+    if (sheet->length == 0)
+        fputs("; it is empty", stderr);
+    else if (looks_like_text(sheet))
+        fputs("; it looks like a text, of which `tools/sheet encode TEXT SHEET` makes a call sheet", stderr);
+}
+
+void print_refusal(uint32_t number, const struct input *voice, const struct input *sheet)
 {
     const char *what = "the player is at fault:";
 
     if (number <= LAST_OF_SHEET)
-        what = number <= LAST_OF_VOICE ? voice : sheet;
-    fprintf(stderr, "player: refused %lu: %s %s\n", (unsigned long)number, what,
-            number <= LAST ? SENTENCES[number] : "an unknown number");
+        what = number <= LAST_OF_VOICE ? voice->name : sheet->name;
+    fprintf(stderr, "player: refused %lu: %s %s", (unsigned long)number, what,
+            number <= DIPHONE_LAST_REFUSAL ? SENTENCES[number] : "an unknown number");
+    if (number == DIPHONE_BAD_SHEET || number == DIPHONE_NOT_FINITE)
+        print_flaw(&sheet->bytes);
+    putc('\n', stderr);
 }

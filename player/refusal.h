@@ -1,10 +1,11 @@
-/* Refusals, in words. */
+/* The engine's refusals, for people. */
 #ifndef PLAYER_REFUSAL_H
 #define PLAYER_REFUSAL_H
 
-#include <stdint.h>
+#include "bytes.h"
 
-/* Says on standard error what a refusal's number means for these two files. */
-void print_refusal(uint32_t number, const char *voice, const char *sheet);
+/* Says on standard error why a call was refused, with the file that is to blame; of a sheet that
+   cannot be read also where and why. */
+void print_refusal(uint32_t number, const struct input *voice, const struct input *sheet);
 
 #endif

@@ -1,7 +1,11 @@
 """Tests of the player; the environment variable PLAYER names the program."""
 import hashlib
 import os
+import random
+import re
+import resource
 import shutil
+import signal
 import struct
 import subprocess
 import sys
@@ -12,7 +16,8 @@ from pathlib import Path
 
 sys.path.insert(0, str(Path(__file__).resolve().parent.parent / "tools"))
 import cases
-from cases import ABSENT, EXAMPLES, REPO, real, segment, sheet, whole
+from cases import EXAMPLES, NONE, REPO, Segment, Target, index_bytes, real, sheet, whole
+from formats import Header, Refused, read_sheet, voice_file
 
 PLAYER = os.environ["PLAYER"]
 VALGRIND = ["valgrind", "--quiet", "--leak-check=full", "--error-exitcode=99"] if shutil.which("valgrind") else None
@@ -60,9 +65,12 @@ class Output(InFolder):
         data = path.read_bytes()
         header = b"RIFF" + struct.pack("<I", 36 + len(raw)) + b"WAVEfmt "
         header += struct.pack("<IHHIIHH", 16, 1, 1, 8000, 16000, 2, 16) + b"data" + struct.pack("<I", len(raw))
-        self.assertEqual((status, message, data), (0, "", header + raw))
+        self.assertEqual((status, text, data), (0, b"", header + raw))
         self.assertEqual(len(header), 44)
-        self.assertIn(f"{path}: {len(raw) / 16000:.3f} seconds, {len(raw) // 2} samples at 8000 a second, ", text.decode())
+        self.assertIn(f"{path}: {len(raw) / 16000:.3f} seconds, {len(raw) // 2} samples at 8000 a second, ", message)
+        status, stream, message = run(*YARD, "--wav", "-")
+        self.assertEqual((status, stream), (0, data))
+        self.assertTrue(message.startswith("standard output: 1.047 seconds"), message)
         with wave.open(str(path)) as file:
             self.assertEqual(file.getnframes() * 2, len(raw))
 
@@ -84,13 +92,13 @@ class Output(InFolder):
 
     def test_picture(self):
         """The picture in docs/ shows what is spoken."""
-        command = [REPO / "tools/draw", YARD[1]]
+        command = [REPO / "tools/draw", YARD[1], "--voice", YARD[0]]
         drawn = subprocess.run(command, input=run(*YARD)[1], stdout=subprocess.PIPE, check=True).stdout
         self.assertEqual(drawn, (REPO / "docs/sheet-to-sound.svg").read_bytes())
 
     def test_fold(self):
         voice = EXAMPLES / "example.flv"
-        words = [segment(b"pau"), segment(b"ah")], [segment(b"pau"), segment(b"aa")]
+        words = [Segment(b"pau"), Segment(b"ah")], [Segment(b"pau"), Segment(b"aa")]
         voice = self.file("two.flv", cases.changed(voice.read_bytes(), b"dip.index", lambda _: two_entries()))
         ah, aa = (self.file(f"{i}.sht", sheet(word)) for i, word in enumerate(words))
         plain, folded = (run(voice, ah, "--join", "simple", *fold)[1] for fold in ((), ("--fold",)))
@@ -99,8 +107,8 @@ class Output(InFolder):
 
     def test_longer_sheet(self):
         """A sheet that goes on begins with the samples of the shorter one."""
-        parts = [segment(*part) for part in SHORT]
-        more = [segment(b"b", real(0.6)), segment(b"ih", real(0.8))]
+        parts = [Segment(*part) for part in SHORT]
+        more = [Segment(b"b", real(0.6)), Segment(b"ih", real(0.8))]
         first = self.file("first.sht", sheet(parts, TARGETS[:2]))
         second = self.file("second.sht", sheet(parts + more, TARGETS))
         first, second = (run(YARD[0], path, "--raw")[1] for path in (first, second))
@@ -109,18 +117,120 @@ class Output(InFolder):
 
     def test_no_period(self):
         path = self.folder / "none.wav"
-        self.assertEqual(run(*YARD, "--join", "none"), (0, b"8000 0 0\n", ""))
+        note = "player: note: the call is empty: "
+        self.assertEqual(run(*YARD, "--join", "none"), (0, b"8000 0 0\n", note + "join none speaks no period\n"))
         self.assertEqual(run(*YARD, "--join", "none", "--wav", path)[0], 0)
         self.assertEqual(len(path.read_bytes()), 44)
 
 
+    def test_gain(self):
+        """Each sample to the nearest, and no louder than the loudest can be."""
+        plain, softer, louder = (samples_of(run(*YARD, "--raw", "--gain", gain)) for gain in ("0", "-6", "6"))
+        self.assertEqual(plain, samples_of(run(*YARD, "--raw")))
+        peak, factor = max(map(abs, plain)), 10 ** (-6 / 20)
+        self.assertTrue(all(abs(a * factor - b) <= 0.5 for a, b in zip(plain, softer)))
+        self.assertLess(peak * 10 ** (6 / 20), 32767)
+        self.assertTrue(all(abs(a / factor - b) <= 0.501 for a, b in zip(plain, louder)))
+        done = run(*YARD, "--raw", "--gain=40")
+        self.assertIn("player: note: the gain is ", done[2])
+        self.assertEqual(max(map(abs, samples_of(done))), 32767)
+        self.assertTrue(all(abs(a * 32767 / peak - b) <= 0.501 for a, b in zip(plain, samples_of(done))))
+
+    def test_streams(self):
+        """A hyphen is standard input, for either file."""
+        printed = run(*YARD)
+        self.assertEqual(run(YARD[0], "-", input=YARD[1].read_bytes()), printed)
+        self.assertEqual(run("-", YARD[1], input=YARD[0].read_bytes()), printed)
+        message = run(YARD[0], "-", input=b"")[2]
+        self.assertTrue(message.startswith("player: refused 8: standard input is malformed, at byte 0: "), message)
+
+
+def samples_of(done):
+    status, raw, _ = done
+    assert status == 0
+    return struct.unpack(f"<{len(raw) // 2}h", raw)
+
+
+class Notes(InFolder):
+    """What a person is told on standard error; the call is spoken as the engine does."""
+
+    def note(self, voice, data, *words):
+        status, text, message = run(voice, self.file("call.sht", data), *words)
+        self.assertEqual(status, 0)
+        self.assertTrue(message == "" or message.startswith("player: note: "), message)
+        return text, message
+
+    def test_pairs(self):
+        phones = [b"pau", b"n", b"q", b"ay", b"n", b"b", b"ih"]
+        text, message = self.note(YARD[0], sheet([Segment(name) for name in phones]), "--join", "simple")
+        tail = f"2 of 6 pairs not in {YARD[0]}, spoken by its first entry ay-n: n-q, q-ay\n"
+        self.assertEqual(message, f"player: note: {tail}")
+        self.assertEqual(text.split(b"\n")[0].split()[1], b"72")
+        self.assertEqual(self.note(YARD[0], sheet([Segment(b"n")] * 9), "--join", "none")[1].count("pairs"), 0)
+        message = self.note(YARD[0], sheet([Segment(b"n")] * 9), "--join", "simple")[1]
+        self.assertIn("8 of 8 pairs not in ", message)
+        self.assertTrue(message.endswith(": n-n, n-n, n-n, n-n, n-n, ..\n"), message)
+
+    def test_names_tried(self):
+        """A cluster's name first, then the plain one; with fold ah is aa."""
+        index = index_bytes([(b"n_-_z", 0, 1, 1), (b"z-n", 0, 1, 1), (b"n-aa", 0, 1, 1), (b"-", 0, 1, 1)])
+        voice = self.file("few.flv", cases.changed(EXAMPLE[0].read_bytes(), b"dip.index", lambda _: index))
+        calls = [
+            ([Segment(b"n", NONE, 2), Segment(b"z")], (), ""),
+            ([Segment(b"n"), Segment(b"z")], (), "n-z"),  # no follower
+            ([Segment(b"n", NONE, 3), Segment(b"z"), Segment(b"aa")], (), "n-z, z-aa"),  # its follower is a vowel
+            ([Segment(b"n", NONE, 1), Segment(b"z", NONE, 1), Segment(b"n")], (), ""),  # z_-_n is not there, z-n is
+            ([Segment(b"aa", NONE, 2), Segment(b"z")], (), "aa-z"),
+            ([Segment(b"n"), Segment(b"ah")], (), "n-ah"),
+            ([Segment(b"n"), Segment(b"ah")], ("--fold",), ""),
+            ([Segment(b"ah"), Segment(b"n")], ("--fold",), "aa-n"),
+            ([Segment(b""), Segment(b"")], (), ""),
+            ([Segment(b"z" * 32, NONE, 2), Segment(b"n" * 32)], (), "z" * 32 + "-" + "n" * 32),
+        ]
+        for segments, words, named in calls:
+            message = self.note(voice, sheet(segments), "--join", "simple", *words)[1]
+            found = message.split("its first entry -: ")[-1].strip() if message else ""
+            self.assertEqual(found, named, segments)
+
+    def test_as_the_engine_does(self):
+        """Pairs that are not named have units of their own: each entry has other sizes."""
+        names = [b"a-b", b"b-a", b"k_-_n", b"k-n", b"n-aa"]
+        residuals = [bytes(size) for size in range(1, 2 * len(names) + 1)]
+        entries = [(name, 2 * place, 1, 1) for place, name in enumerate(names)]
+        voice = self.file("sizes.flv", voice_file(Header(), [[]] * len(residuals), residuals, entries))
+        draw = random.Random(1)
+        for _ in range(40):
+            phones = [draw.choice([b"a", b"b", b"k", b"n", b"aa", b"ah"]) for _ in range(6)]
+            segments = [Segment(phone, NONE, draw.randrange(7)) for phone in phones]
+            text, message = self.note(voice, sheet(segments), "--join", "simple", "--fold")
+            sizes = [int(line.split()[1]) for line in text.splitlines()[1:]]
+            first = sum(pair == [1, 2] for pair in zip(*[iter(sizes)] * 2) for pair in [list(pair)])
+            right = sum(phones[i : i + 2] == [b"a", b"b"] for i in range(5))
+            missing = int(message.split("note: ")[1].split()[0]) if message else 0
+            self.assertEqual(missing + right, first, segments)
+
+    def test_empty(self):
+        targets = [Target(NONE, real(100)), Target(real(1), real(100))]
+        pair = [Segment(b"pau", real(0.5)), Segment(b"n", real(1))]
+        for data, words, why in [
+            (sheet([]), (), "the sheet has fewer than two segments"),
+            (sheet(pair[:1], targets), (), "the sheet has fewer than two segments"),
+            (sheet(pair), (), "the sheet's targets and ends give no period"),
+            (sheet(pair, targets), ("--join=none",), "join none speaks no period"),
+        ]:
+            text, message = self.note(YARD[0], data, *words)
+            self.assertEqual(text, b"8000 0 0\n")
+            self.assertIn(f"player: note: the call is empty: {why}", message)
+        self.assertEqual(self.note(YARD[0], sheet(pair, targets))[1], "")
+
+
 SHORT = [(b"pau", real(0.1)), (b"n", real(0.2)), (b"ay", real(0.4)), (b"n", real(0.5))]
-TARGETS = [ABSENT + whole(116), real(0.45) + whole(108), whole(1) + whole(84)]
+TARGETS = [Target(NONE, whole(116)), Target(real(0.45), whole(108)), Target(whole(1), whole(84))]
 
 
 def two_entries():
     """The index of example.flv with one more entry before it, of one period."""
-    return cases.u32(2) + b"\6pau-aa\0\0\1\1" + b"\6-first\0\0\1\0"
+    return index_bytes([(b"pau-aa", 0, 1, 1), (b"-first", 0, 1, 0)])
 
 
 class Refusals(InFolder):
@@ -144,6 +254,56 @@ class Refusals(InFolder):
     def test_sheets(self):
         for number, what, data in [*cases.unfit_sheets(), *cases.unfit_calls()]:
             self.refused(number, what, YARD[0], self.file("unfit.sht", data))
+
+    def test_where(self):
+        """8 and 9 say where and why, as tools/formats.py does."""
+        draw = random.Random(1)
+        whole_sheet = YARD[1].read_bytes()
+        sheets = [data for _, _, data in cases.unfit_sheets()]
+        for _ in range(60):
+            place = draw.randrange(len(whole_sheet))
+            cut = draw.randrange(place, len(whole_sheet) + 1)
+            sheets.append((whole_sheet[:place] + bytes([draw.choice([0, 3, 31, 127, 128, 255])]) + whole_sheet[place + 1 :])[:cut])
+        seen = 0
+        for data in sheets:
+            path = self.file("unfit.sht", data)
+            message = run(YARD[0], path, "--join=none")[2]
+            try:
+                read_sheet(data)
+            except Refused as refusal:
+                seen += 1
+                self.assertTrue(message.startswith(f"player: refused {refusal.number}: {path} "), message)
+                self.assertIn(f", at byte {refusal.place}: {refusal.reason}", message)
+            else:
+                self.assertNotIn("refused", message)
+        self.assertGreater(seen, 50)
+
+    def test_readable_form(self):
+        message = run(YARD[0], EXAMPLES / "yard.txt")[2]
+        self.assertIn("refused 8: ", message)
+        self.assertIn("it looks like a text, of which `tools/sheet encode TEXT SHEET` makes a call sheet", message)
+        self.assertIn("; it is empty\n", run(YARD[0], self.file("empty.sht", b""))[2])
+
+    def test_not_over_the_input(self):
+        for place in (0, 1):
+            files = [self.file("voice.flv", YARD[0].read_bytes()), self.file("call.sht", YARD[1].read_bytes())]
+            kept = files[place].read_bytes()
+            same = self.folder / "." / "link"
+            same.symlink_to(files[place])
+            for name in (files[place], same):
+                status, _, message = run(*files, "--wav", name)
+                self.assertEqual((status, message), (1, f"player: cannot write {name}: it is read too\n"))
+            self.assertEqual(files[place].read_bytes(), kept)
+            same.unlink()
+
+    def test_unfinished(self):
+        """A WAV that does not fit is removed."""
+        limit = lambda: (signal.signal(signal.SIGXFSZ, signal.SIG_IGN), resource.setrlimit(resource.RLIMIT_FSIZE, (4096, 4096)))
+        path = self.folder / "cut.wav"
+        status, _, message = run(*YARD, "--wav", path, preexec_fn=limit)
+        self.assertEqual(status, 1)
+        self.assertIn(f"player: cannot write {path}: ", message)
+        self.assertFalse(path.exists())
 
     def test_voice_before_sheet(self):
         voice = self.file("unfit.flv", cases.changed(YARD[0].read_bytes(), b"dip.index", lambda _: b""))
@@ -180,6 +340,13 @@ class CommandLine(unittest.TestCase):
             (voice, call, "--raw", "--wav", "x"),
             (voice, call, "--loud"),
             (voice, call, "-r"),
+            (voice, call, "--join="),
+            (voice, call, "--gain", "loud"),
+            (voice, call, "--gain", "nan"),
+            (voice, call, "--gain", "61"),
+            (voice, call, "--fold=1"),
+            ("-", "-"),
+            (voice, "--", "--raw", call),
         ]:
             status, text, message = run(*words)
             self.assertEqual((status, text), (2, b""), words)
@@ -187,9 +354,24 @@ class CommandLine(unittest.TestCase):
         self.assertFalse(os.path.exists("x"))
 
     def test_help(self):
-        status, text, message = run("--help")
-        self.assertEqual((status, message), (0, ""))
-        self.assertTrue(text.startswith(b"usage: player VOICE SHEET"))
+        for word in ("--help", "-h"):
+            status, text, message = run(word)
+            self.assertEqual((status, message), (0, ""))
+            self.assertTrue(text.startswith(b"usage: player VOICE SHEET"))
+
+    def test_version(self):
+        header = (REPO / "include/diphone.h").read_text()
+        version = re.search(r'#define DIPHONE_VERSION "(.*)"', header)[1]
+        self.assertEqual(run("--version"), (0, f"player {version}\n".encode(), ""))
+
+    def test_forms(self):
+        """--join=simple is --join simple; after -- every word is a file."""
+        self.assertEqual(run(*EXAMPLE, "--join=simple"), run(*EXAMPLE, "--join", "simple"))
+        with tempfile.TemporaryDirectory() as folder:
+            for name, source in (("-v", EXAMPLE[0]), ("--raw", EXAMPLE[1])):
+                shutil.copy(source, Path(folder) / name)
+            done = run("--join=simple", "--", "-v", "--raw", cwd=folder)
+        self.assertEqual(done, run(*EXAMPLE, "--join=simple"))
 
     def test_any_order(self):
         voice, call = EXAMPLE
@@ -204,7 +386,9 @@ class Memory(InFolder):
         calls += [(*YARD, "--filter", "float", "--wav", self.folder / "yard.wav")]
         for words in calls:
             self.assertEqual(run(*words, before=VALGRIND), run(*words), words)
-        for words in [(YARD[0], unfit), (unfit, unfit), (YARD[0], "/nowhere/at-all"), (), ("--help",)]:
+        gap = self.file("gap.sht", sheet([Segment(b"n", NONE, 2), Segment(b"z"), Segment(b"q" * 32)]))
+        calls = [(YARD[0], unfit), (unfit, unfit), (YARD[0], "/nowhere/at-all"), ("--help",), (YARD[0], gap, "--join=simple")]
+        for words in [*calls, (*YARD, "--raw", "--gain", "30")]:
             self.assertEqual(run(*words, before=VALGRIND), run(*words), words)
 
 

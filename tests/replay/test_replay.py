@@ -114,11 +114,11 @@ class Replay(unittest.TestCase):
         self.assertEqual({call.settings for call in calls if call.answer == 0}, settings)
 
     def by_player(self, call):
-        """What the player prints; a refusal stands on standard error, with a sentence behind its number."""
+        """What the player prints; on standard error stand notes, or a refusal with a sentence behind its number."""
         join, how, fold = call.settings
         words = ["--join", join, "--filter", how] + ["--fold"] * fold
         status, text, message = self.run_on(call, PLAYER, "voice.flv", "call.sht", *words)
-        if (status, message) == (0, b""):
+        if status == 0 and all(line.startswith(b"player: note: ") for line in message.splitlines()):
             return text
         refused = re.match(rb"player: (refused [0-9]+): ", message)
         self.assertTrue(refused and (status, text) == (1, b""), (call.number, status, text, message))

@@ -1,6 +1,5 @@
 """Tests of the program speak; the environment variable SPEAK names it."""
 import os
-import struct
 import subprocess
 import sys
 import tempfile
@@ -9,7 +8,8 @@ from pathlib import Path
 
 sys.path.insert(0, str(Path(__file__).resolve().parent.parent / "tools"))
 import cases
-from cases import EXAMPLES, section, segment, sheet, u32, voice_of
+from cases import EXAMPLES, Segment, Target, section, sheet
+from formats import Header, voice_file
 
 SPEAK = os.environ["SPEAK"]
 EXAMPLE = (EXAMPLES / "example.flv").read_bytes(), (EXAMPLES / "example.sht").read_bytes()
@@ -19,23 +19,14 @@ VOICE_LIMIT, SHEET_LIMIT = 32_768, 4_096
 
 def voice(sizes, start=0, halves=(1, 1), order=0, codec=0, names=(b"pau-aa",), mulaw=255):
     """A voice like the example's, with a period of each of the sizes and the same entry under each name."""
-    offsets = [sum(sizes[:i]) for i in range(len(sizes) + 1)]
-    header = struct.pack("<IIIffIfffI", len(sizes), order, 8000, 0, 0, codec, 0, 0, 0, 0)
-    entry = struct.pack("<HBB", start, *halves)
-    return voice_of(
-        [
-            (b"sts.header", header),
-            (b"sts.lpc", bytes(2 * order * len(sizes))),
-            (b"sts.resoffs", b"".join(map(u32, offsets))),
-            (b"sts.res", bytes([mulaw]) * offsets[-1]),
-            (b"dip.index", u32(len(names)) + b"".join(bytes([len(name)]) + name + entry for name in names)),
-        ]
-    )
+    header = Header(order=order, rate=8000, codec=codec)
+    residuals = [bytes([mulaw]) * size for size in sizes]
+    return voice_file(header, [[0] * order] * len(sizes), residuals, [(name, start, *halves) for name in names])
 
 
 def pairs(count):
     """A sheet of so many pairs, with no names."""
-    return sheet([segment(b"")] * (count + 1))
+    return sheet([Segment(b"")] * (count + 1))
 
 
 def padded(data, length):
@@ -142,7 +133,7 @@ class Speak(unittest.TestCase):
         self.refused(5, "order 33", voice([4, 4], order=33), EXAMPLE[1])
 
     def test_none(self):
-        for what, data in (("no segment", sheet([])), ("one segment", sheet([segment(b"aa")]))):
+        for what, data in (("no segment", sheet([])), ("one segment", sheet([Segment(b"aa")]))):
             self.assertEqual(self.run_on(EXAMPLE[0], data), "8000 0 0\n", what)
         self.assertEqual(self.run_on(voice([0, 0]), EXAMPLE[1]), "8000 2 0\n1 0\n2 0\n")
 
@@ -153,7 +144,7 @@ class Speak(unittest.TestCase):
         self.refused(13, "a voice too long", padded(EXAMPLE[0], VOICE_LIMIT + 1), EXAMPLE[1])
         self.refused(1, "of its limit, no voice", bytes(VOICE_LIMIT), EXAMPLE[1])
         self.refused(13, "too long, no voice", bytes(VOICE_LIMIT + 1), EXAMPLE[1])
-        whole = sheet([segment(b"pau"), segment(b"aa")], [cases.ABSENT * 2] * 2041)
+        whole = sheet([Segment(b"pau"), Segment(b"aa")], [Target()] * 2041)
         self.assertEqual(len(whole), SHEET_LIMIT)
         self.assertEqual(self.run_on(EXAMPLE[0], whole), document)
         self.refused(8, "of its limit, no sheet", EXAMPLE[0], EXAMPLE[1].ljust(SHEET_LIMIT, b"\0"))

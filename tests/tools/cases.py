@@ -1,33 +1,24 @@
 """Voices and sheets, fit and unfit, each with the number by which it is refused."""
-import struct
+import sys
 from pathlib import Path
 
 REPO = Path(__file__).resolve().parent.parent.parent
+sys.path.insert(0, str(REPO / "tools"))
+import formats
+from formats import FLOAT, NONE, WHOLE, Segment, Target, f32, index_bytes, real, u32, voice_of
+from formats import section_bytes as section
+from formats import sheet_bytes as sheet
+
 EXAMPLES = REPO / "examples"
-MAGIC = b"FLRSDAT\x01"
 NAN, INFINITY = 0x7FC00000, 0x7F800000
 
 
 # ---- voices
 
 
-def section(name, data):
-    return bytes([len(name)]) + name + struct.pack("<I", len(data)) + data
-
-
-def sections_of(data):
+def sections_of(voice):
     """A voice's sections as (name, data)."""
-    at, found = len(MAGIC), []
-    while at < len(data):
-        end = at + 1 + data[at]
-        length = struct.unpack_from("<I", data, end)[0]
-        found.append((data[at + 1 : end], data[end + 4 : end + 4 + length]))
-        at = end + 4 + length
-    return found
-
-
-def voice_of(sections):
-    return MAGIC + b"".join(section(name, data) for name, data in sections)
+    return [(section.name, section.data) for section in formats.sections_of(voice)]
 
 
 def changed(voice, name, change):
@@ -37,14 +28,6 @@ def changed(voice, name, change):
 
 def patched(at, data):
     return lambda old: old[:at] + data + old[at + len(data) :]
-
-
-def u32(number):
-    return struct.pack("<I", number)
-
-
-def f32(number):
-    return struct.pack("<f", number)
 
 
 def with_backend(voice, text):
@@ -98,14 +81,14 @@ def unfit_voices(voice):
     yield 6, "the last offset past the residual", changed(voice, b"sts.res", lambda data: data[:-1])
     yield 6, "sizes cut short", voice + section(b"sts.ressize", bytes(95))
     yield 6, "a residual too long", changed(voice, b"sts.res", lambda data: data + bytes(16_777_216 - len(data)))
-    entry = b"\x03q-q" + struct.pack("<HBB", 0, 1, 1)
+    entry = b"q-q", 0, 1, 1
     indices = {
         "no index count": b"\0\0\0",
         "empty index": u32(0),
-        "cut short": u32(2) + entry,
-        "a name twice": u32(2) + entry + entry,
-        "a name not UTF-8": u32(1) + b"\x03\xed\xa0\x80" + bytes(4),
-        "an entry past the frames": u32(1) + b"\x03q-q" + struct.pack("<HBB", 95, 1, 1),
+        "cut short": u32(2) + index_bytes([entry])[4:],
+        "a name twice": index_bytes([entry, entry]),
+        "a name not UTF-8": index_bytes([(b"\xed\xa0\x80", 0, 0, 0)]),
+        "an entry past the frames": index_bytes([(b"q-q", 95, 1, 1)]),
     }
     for what, data in indices.items():
         yield 7, what, changed(voice, b"dip.index", lambda _, data=data: data)
@@ -116,62 +99,39 @@ def unfit_voices(voice):
 # ---- sheets
 
 
-def group(number):
-    out = b""
-    while number >= 128:
-        out += bytes([number % 128 + 128])
-        number //= 128
-    return out + bytes([number])
-
-
-ABSENT = b"\x02"
-
-
 def whole(number):
-    return b"\x00" + struct.pack("<i", number)
+    return WHOLE, number
 
 
 def bits(word):
-    return b"\x01" + struct.pack("<I", word)
-
-
-def real(number):
-    return b"\x01" + f32(number)
-
-
-def segment(name, end=ABSENT, follower=0):
-    return group(len(name)) + name + end + group(follower)
-
-
-def sheet(segments, targets=()):
-    return group(len(segments)) + b"".join(segments) + group(len(targets)) + b"".join(targets)
+    return FLOAT, word
 
 
 def unfit_sheets():
     """(number, what, bytes) of sheets that cannot be read."""
-    pair = [segment(b"pau"), segment(b"n")]
+    pair = [Segment(b"pau"), Segment(b"n")]
     yield 8, "empty", b""
     yield 8, "cut short", sheet(pair)[:-1]
     yield 8, "bytes left over", sheet(pair) + b"\0"
     yield 8, "a count not in its shortest form", b"\x80\x00\x00"
     yield 8, "a count of six groups", b"\x80\x80\x80\x80\x80\x01"
-    yield 8, "4,097 segments", sheet([segment(b"n")] * 4097)
-    yield 8, "4,097 targets", sheet(pair, [ABSENT * 2] * 4097)
-    yield 8, "a name of 33 bytes", sheet([segment(b"n" * 33)])
-    yield 8, "a blank in a name", sheet([segment(b"n n")])
-    yield 8, "byte 127 in a name", sheet([segment(b"n\x7f")])
-    yield 8, "a value of kind 3", sheet([segment(b"n", b"\x03")])
-    yield 8, "a follower above the count", sheet([segment(b"n", ABSENT, 2)])
-    yield 9, "a NaN", sheet([segment(b"n", bits(NAN))])
-    yield 9, "infinity", sheet(pair, [bits(INFINITY) + ABSENT])
-    yield 9, "a NaN before a follower above the count", sheet([segment(b"n", bits(NAN), 2)])
-    yield 8, "a bad name before a NaN", sheet([segment(b"n n", bits(NAN))])
+    yield 8, "4,097 segments", sheet([Segment(b"n")] * 4097)
+    yield 8, "4,097 targets", sheet(pair, [Target()] * 4097)
+    yield 8, "a name of 33 bytes", sheet([Segment(b"n" * 33)])
+    yield 8, "a blank in a name", sheet([Segment(b"n n")])
+    yield 8, "byte 127 in a name", sheet([Segment(b"n\x7f")])
+    yield 8, "a value of kind 3", sheet([Segment(b"n", (3, None))])
+    yield 8, "a follower above the count", sheet([Segment(b"n", NONE, 2)])
+    yield 9, "a NaN", sheet([Segment(b"n", bits(NAN))])
+    yield 9, "infinity", sheet(pair, [Target(bits(INFINITY))])
+    yield 9, "a NaN before a follower above the count", sheet([Segment(b"n", bits(NAN), 2)])
+    yield 8, "a bad name before a NaN", sheet([Segment(b"n n", bits(NAN))])
 
 
 def unfit_calls():
     """(number, what, bytes) of sheets that can be read, but not spoken with the modified join at 8,000 a second."""
-    pair = [segment(b"pau", real(0.5)), segment(b"n", real(1))]
-    yield 10, "a pitch that leaps", sheet(pair, [real(1e-40) + real(1000)])
-    yield 11, "a phone too late", sheet([segment(b"pau"), segment(b"n", whole(5000))])
-    yield 11, "a period too late", sheet(pair, [ABSENT + real(1e-4), real(1) + real(1e-4)])
-    yield 12, "too many periods", sheet(pair, [ABSENT + real(60_000), real(2) + real(60_000)])
+    pair = [Segment(b"pau", real(0.5)), Segment(b"n", real(1))]
+    yield 10, "a pitch that leaps", sheet(pair, [Target(real(1e-40), real(1000))])
+    yield 11, "a phone too late", sheet([Segment(b"pau"), Segment(b"n", whole(5000))])
+    yield 11, "a period too late", sheet(pair, [Target(NONE, real(1e-4)), Target(real(1), real(1e-4))])
+    yield 12, "too many periods", sheet(pair, [Target(NONE, real(60_000)), Target(real(2), real(60_000))])

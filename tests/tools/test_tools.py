@@ -8,13 +8,14 @@ import random
 import re
 import struct
 import subprocess
+import sys
 import tempfile
 import unittest
 from pathlib import Path
 from xml.etree import ElementTree
 
 import cases
-from cases import ABSENT, EXAMPLES, REPO, bits, group, segment, sheet, whole
+from cases import EXAMPLES, NONE, REPO, Segment, Target, bits, formats, sheet, whole
 
 DOCUMENT_TEXT = """\
 # segment NAME END FOLLOWER
@@ -32,7 +33,7 @@ def loaded(name):
     return module
 
 
-TOOLS = {name: loaded(name) for name in ("sheet", "voice-info")}
+TOOLS = {name: loaded(name) for name in ("sheet", "voice-info", "draw")}
 
 
 def run(tool, *words):
@@ -43,10 +44,10 @@ def run(tool, *words):
     return status, out.getvalue(), err.getvalue()
 
 
-def run_alone(tool, *words, given=b""):
+def run_alone(tool, *words, given=b"", **more):
     """The same, run as a program."""
-    command = [REPO / "tools" / tool, *words]
-    done = subprocess.run(command, input=given, stdout=subprocess.PIPE, stderr=subprocess.PIPE, check=False)
+    command = [sys.executable, "-B", REPO / "tools" / tool, *words]
+    done = subprocess.run(command, input=given, stdout=subprocess.PIPE, stderr=subprocess.PIPE, check=False, **more)
     return done.returncode, done.stdout, done.stderr.decode()
 
 
@@ -80,7 +81,7 @@ def random_value(draw):
     if kind == 0:
         return whole(draw.choice([0, -1, 2**31 - 1, -(2**31), draw.randrange(-1000, 1000)]))
     if kind == 1:
-        return ABSENT
+        return NONE
     word = draw.choice(FLOATS) if kind == 2 else draw.getrandbits(32)
     return bits(word if finite(word) else word & 0x807FFFFF)
 
@@ -89,8 +90,45 @@ def random_sheet(draw, segments, targets):
     letters = bytes(range(33, 127))
     names = [bytes(draw.choices(letters, k=draw.randrange(33))) for _ in range(segments)]
     names[:5] = [b"", b"\\", b"\\0", b"#", b"-"][: len(names)]
-    parts = [segment(name, random_value(draw), draw.randrange(segments + 1)) for name in names]
-    return sheet(parts, [random_value(draw) + random_value(draw) for _ in range(targets)])
+    parts = [Segment(name, random_value(draw), draw.randrange(segments + 1)) for name in names]
+    return sheet(parts, [Target(random_value(draw), random_value(draw)) for _ in range(targets)])
+
+
+class Formats(unittest.TestCase):
+    """What is written, byte by byte, by hand; the reader is held to the writer by the round trips."""
+
+    def test_groups(self):
+        for number, data in {0: b"\0", 127: b"\x7f", 128: b"\x80\1", 4096: b"\x80\x20", 2**35 - 1: b"\xff" * 4 + b"\x7f"}.items():
+            self.assertEqual(formats.groups(number), data)
+
+    def test_sheet(self):
+        segments = [Segment(b"pau", whole(-2), 2), Segment(b"", formats.real(0.5))]
+        data = b"\2\3pau\0\xfe\xff\xff\xff\2\0\1\0\0\0\x3f\0\1\2\0\5\0\0\0"
+        self.assertEqual(sheet(segments, [Target(NONE, whole(5))]), data)
+        self.assertEqual(formats.read_sheet(data), (segments, [Target(NONE, whole(5))]))
+
+    def test_voice(self):
+        header = formats.Header(order=1, rate=256, coeff_min=0.5, codec=1, fold=3)
+        voice = formats.voice_file(header, [[258]], [b"ab"], [(b"a-b", 513, 3, 4)], b"diphone", [9])
+        sections = [
+            b"\x0dvoice.backend\7\0\0\0diphone",
+            b"\x0asts.header\x28\0\0\0" + b"\1\0\0\0" * 2 + b"\0\1\0\0\0\0\0\x3f" + bytes(4),
+            b"\1\0\0\0" + bytes(12) + b"\3\0\0\0",
+            b"\7sts.lpc\2\0\0\0\2\1",
+            b"\x0bsts.resoffs\x08\0\0\0\0\0\0\0\2\0\0\0",
+            b"\7sts.res\2\0\0\0ab",
+            b"\x09dip.index\x0c\0\0\0\1\0\0\0\3a-b\1\2\3\4",
+            b"\x0bsts.ressize\1\0\0\0\x09",
+        ]
+        self.assertEqual(voice, b"FLRSDAT\x01" + b"".join(sections))
+        found = {section.name: section for section in formats.sections_of(voice)}
+        self.assertEqual(formats.header_of(found[b"sts.header"]), header._replace(frames=1))
+        self.assertEqual(list(formats.entries_of(voice, found[b"dip.index"])), [(b"a-b", 513, 3, 4)])
+
+    def test_numbers(self):
+        values = {whole(16777217): 16777216.0, NONE: 0.0, formats.real(0.1): 0.10000000149011612}
+        for value, number in values.items():
+            self.assertEqual(formats.number_of(value), number)
 
 
 class Sheet(unittest.TestCase):
@@ -131,12 +169,12 @@ class Sheet(unittest.TestCase):
         }
         for text, word in words.items():
             status, data, _ = encode(f"target float {text} -")
-            expected = (1, b"") if word is None else (0, sheet([], [bits(word) + ABSENT]))
+            expected = (1, b"") if word is None else (0, sheet([], [Target(bits(word))]))
             self.assertEqual((status, data), expected, text)
 
     def test_shortest(self):
         words = {0x3DCCCCCD: "0.1", 0x42F00000: "120", 1: "1e-45", 0x80000000: "-0", 0x3EAAAAAB: "0.33333334"}
-        text = decode(sheet([], [bits(word) + ABSENT for word in words]))[1].decode()
+        text = decode(sheet([], [Target(bits(word)) for word in words]))[1].decode()
         lines = [f"target {'float ' + word:<12} -" for word in words.values()]
         self.assertEqual(text.splitlines()[2:], lines)
 
@@ -153,9 +191,8 @@ class Sheet(unittest.TestCase):
             self.assertIn(f"refused {number} ", message, what)
 
     def test_most(self):
-        most = sheet([segment(b"n", ABSENT, 4096)] * 4096, [ABSENT * 2] * 4096)
+        most = sheet([Segment(b"n", NONE, 4096)] * 4096, [Target()] * 4096)
         self.assertEqual(decode(most)[0], 0)
-        self.assertEqual(group(4096), b"\x80\x20")
 
     def test_unfit_texts(self):
         good = "segment n - -\n"
@@ -181,12 +218,31 @@ class Sheet(unittest.TestCase):
         self.assertIn("line 2: ", encode(good + lines[0])[2])
         self.assertEqual(encode(good * 4096)[0], 0)
         self.assertEqual(encode(good * 4097)[0], 1)
-        self.assertEqual(encode("# a comment\n\n  # and one more\r\n" + good)[:2], (0, sheet([segment(b"n")])))
+        self.assertEqual(encode("# a comment\n\n  # and one more\r\n" + good)[:2], (0, sheet([Segment(b"n")])))
 
     def test_command_line(self):
         for words in [(), ("encode", "a"), ("decode",), ("decode", "a", "b", "c"), ("other", "a", "b")]:
             self.assertEqual(run("sheet", *words)[0], 2, words)
         self.assertEqual(run("sheet", "decode", "/nowhere/at-all")[0], 1)
+
+    def test_byte_order_mark(self):
+        for data in ("\ufeffsegment n - -\n".encode(), "segment n - -\n".encode("utf-16")):
+            status, _, message = encode(data)
+            self.assertEqual(status, 1)
+            self.assertIn("byte order mark (BOM)", message)
+
+    def test_file_that_failed(self):
+        """An error names the file that it is about."""
+        source = str(EXAMPLES / "yard.txt")
+        done = run_alone("sheet", "encode", source, "/nowhere/at-all.sht")
+        self.assertEqual(done, (1, b"", "sheet: /nowhere/at-all.sht: No such file or directory\n"))
+        done = run_alone("sheet", "encode", "/nowhere/at-all.txt", "-")
+        self.assertEqual(done, (1, b"", "sheet: /nowhere/at-all.txt: No such file or directory\n"))
+        status, _, message = run("sheet", "decode", source)
+        self.assertEqual(status, 1)
+        self.assertIn(f"sheet: {source}: refused 8 at byte 7: ", message)
+        self.assertIn("it looks like a text, of which encode makes a sheet", message)
+        self.assertEqual(run_alone("sheet", "decode", "-", given=b"\2")[2], "sheet: standard input: refused 8 at byte 1: the sheet is cut short\n")
 
 
 class VoiceInfo(unittest.TestCase):
@@ -224,7 +280,7 @@ class VoiceInfo(unittest.TestCase):
         for number, what, data in cases.unfit_voices((EXAMPLES / "yard.flv").read_bytes()):
             status, text = self.info(data)
             self.assertEqual(status, 1, what)
-            self.assertEqual(re.match(r"refused (\d): .", text.split("\n")[-2])[1], str(number), what)
+            self.assertEqual(re.match(r"refused (\d)( at byte \d+)?: .", text.split("\n")[-2])[1], str(number), what)
             seen.add(number)
         self.assertEqual(seen, set(range(1, 8)))
 
@@ -241,17 +297,127 @@ class VoiceInfo(unittest.TestCase):
         self.assertEqual(run("voice-info", "/nowhere/at-all")[0], 1)
 
 
+YARD = str(EXAMPLES / "yard.sht")
+SPOKEN = b"8000 7 14\n" + b"".join(b"%d 2 100 -100\n" % number for number in range(1, 8))
+DRAW = TOOLS["draw"]
+
+
+def spoken(samples, rate=8000, size=80):
+    """A call as the player prints it, in periods of a size."""
+    periods = [samples[at : at + size] for at in range(0, len(samples), size)]
+    lines = [f"{rate} {len(periods)} {len(samples)}"]
+    return lines + [" ".join(map(str, [number, len(period), *period])) for number, period in enumerate(periods, 1)]
+
+
+def long_call(seconds):
+    """A call of many short phones and targets."""
+    phones = [Segment(b"pau", formats.real(number * 0.05 + 0.05)) for number in range(seconds * 20)]
+    targets = [Target(formats.real(number * 0.05), formats.real(100 + number % 7 / 3)) for number in range(seconds * 20)]
+    return DRAW.Call((phones, targets), spoken([32767, -32768] * (4000 * seconds)))
+
+
 class Draw(unittest.TestCase):
+    def drawn(self, call, start=0, end=None, width=960, zoom=0):
+        return ElementTree.fromstring(DRAW.drawn(call, start, end or call.length, width, zoom))
+
     def test_parts(self):
-        lines = b"8000 7 14\n" + b"".join(b"%d 2 100 -100\n" % number for number in range(1, 8))
-        status, text, message = run_alone("draw", str(EXAMPLES / "yard.sht"), "--zoom", "0", given=lines)
+        status, text, message = run_alone("draw", YARD, "--zoom", "0", given=SPOKEN)
         self.assertEqual((status, message), (0, ""))
         kinds = collections.Counter(part.get("class") for part in ElementTree.fromstring(text))
+        found = [kinds[kind] for kind in ("dot", "mark", "wave")]
+        self.assertEqual(found, [4, 7 + 5, 2])
+        picture = self.drawn(DRAW.Call(formats.read_sheet(Path(YARD).read_bytes()), spoken([100, -100] * 4400)))
+        kinds = collections.Counter(part.get("class") for part in picture)
         found = [kinds[kind] for kind in ("box", "half", "other", "dot", "mark", "wave", "body", "end")]
-        self.assertEqual(found, [9, 8, 8, 5, 7 + 5, 1, 1, 8])
+        self.assertEqual(found, [9, 8, 8, 5, 110 + 5, 1, 1, 8])
 
-    def test_no_call(self):
-        self.assertEqual(run_alone("draw", str(EXAMPLES / "yard.sht"))[:2], (1, b""))
+    def test_nothing_leaves(self):
+        """Points and boxes lie on the paper, waves within their bands, for the loudest samples too."""
+        for seconds, width in ((1, 960), (5, 300), (30, 2000)):
+            picture = self.drawn(long_call(seconds), width=width)
+            right, bottom = int(picture.get("width")), int(picture.get("height"))
+            self.assertEqual(right, width)
+            tops = {}
+            for part in picture:
+                points = [tuple(map(float, point.split(","))) for point in part.get("points", "").split()]
+                points += [(float(part.get(x)), float(part.get(y))) for x, y in (("x1", "y1"), ("x", "y")) if part.get(x)]
+                for x, y in points:
+                    self.assertTrue(0 <= x <= right and 0 <= y <= bottom, part.attrib)
+                if part.get("class") == "body":
+                    tops[min(y for _, y in points)] = max(y for _, y in points)
+            heights = {1: 140, 5: 84, 30: 70}
+            self.assertTrue(all(abs(low - top - heights[seconds]) <= 0.2 for top, low in tops.items()), tops)
+
+    def test_labels_apart(self):
+        for seconds in (1, 5, 30):
+            lines = collections.defaultdict(list)
+            for part in self.drawn(long_call(seconds)).iter("{http://www.w3.org/2000/svg}text"):
+                kind, x, length = part.get("class"), float(part.get("x")), DRAW.width_of(part.text, part.get("class"))
+                shift = 0 if "left" in kind else length if "right" in kind or "name" in kind else length / 2
+                lines[part.get("y")].append((x - shift, x - shift + length))
+            for y, places in lines.items():
+                places.sort()
+                self.assertTrue(all(a[1] <= b[0] + 1 for a, b in zip(places, places[1:])), (seconds, y, places))
+
+    def test_axis(self):
+        texts = [part.text for part in self.drawn(long_call(1)) if part.get("class") == "note"]
+        self.assertEqual([text for text in texts if text in ("0.2", "1600", "1.0", "8000")], ["0.2", "1600", "1.0", "8000"])
+        peaks = [part.text for part in self.drawn(long_call(1)) if part.get("class") == "note right"]
+        self.assertEqual(peaks[:2], ["32768", "-32768"])
+        self.assertEqual(DRAW.shown(1 / 3), "0.3")
+
+    def test_part(self):
+        picture = self.drawn(long_call(30), 3.1, 4.3)
+        self.assertIn("drawn from 3.1 to 4.3 seconds", "".join(picture.itertext()))
+        kinds = collections.Counter(part.get("class") for part in picture)
+        self.assertEqual((kinds["box"], kinds["mark"]), (24, 120))
+        self.assertIn("an overview", "".join(self.drawn(long_call(30)).itertext()))
+
+    def test_simple_join(self):
+        """Phones stand where the join puts them: the example has periods of 2 and 3 samples, and no times."""
+        files = [(EXAMPLES / f"example.{kind}").read_bytes() for kind in ("flv", "sht")]
+        call = DRAW.Call(formats.read_sheet(files[1]), ["8000 2 5", "1 2 8 132", "2 3 0 -8 -132"], DRAW.Voice(files[0]))
+        self.assertTrue(call.simple)
+        self.assertEqual(call.phones, [("pau", 0, 2 / 8000), ("aa", 2 / 8000, 5 / 8000)])
+        self.assertEqual([unit.name for unit in call.units], ["pau-aa"])
+        self.assertEqual(len(self.drawn(call).findall(".//*[@class='box']")), 2)
+        other = DRAW.Call(formats.read_sheet(files[1]), ["8000 1 5", "1 5 0 0 0 0 0"], DRAW.Voice(files[0]))
+        self.assertFalse(other.simple)
+
+    def test_files(self):
+        """A picture beside which a PNG may stand, and none where no converter is."""
+        with tempfile.TemporaryDirectory() as folder:
+            out = Path(folder) / "a b.svg"
+            done = run_alone("draw", YARD, "--out", str(out), given=SPOKEN, env={"PATH": folder})
+            self.assertEqual(done[:2], (0, b""))
+            self.assertTrue(done[2].startswith(f"draw: {out}"), done[2])
+            self.assertEqual(out.read_bytes(), run_alone("draw", YARD, given=SPOKEN)[1])
+
+    def test_wrong_input(self):
+        """One line on standard error."""
+        voice = str(EXAMPLES / "yard.flv")
+        for words, given in [
+            ((YARD,), b""),
+            ((YARD,), b"8000 0 0\n"),
+            ((YARD,), b"8000 1\n"),
+            ((YARD,), b"0 1 1\n1 1 1\n"),
+            ((YARD,), b"8000 1 1\n"),
+            ((YARD,), b"8000 1 2\n1 2 1\n"),
+            ((YARD,), b"8000 1 2\n1 1 1\n"),
+            ((YARD,), b"8000 1 1\n1 1 x\n"),
+            ((YARD,), b"\xff\n"),
+            ((voice,), SPOKEN),
+            (("/nowhere/at-all",), SPOKEN),
+            ((YARD, "--voice", YARD), SPOKEN),
+            ((YARD, "--voice", "/nowhere/at-all"), SPOKEN),
+            ((YARD, "--from", "9"), SPOKEN),
+            ((YARD, "--out", "/nowhere/at-all.svg"), SPOKEN),
+        ]:
+            status, text, message = run_alone("draw", *words, given=given)
+            self.assertEqual((status, text, message.count("\n")), (1, b"", 1), (words, given, message))
+            self.assertTrue(message.startswith("draw: "), message)
+        for words in [(), (YARD, "--from", "2", "--to", "1"), (YARD, "--width", "1"), (YARD, "--out", "a.png")]:
+            self.assertEqual(run_alone("draw", *words, given=SPOKEN)[0], 2, words)
 
 
 class Examples(unittest.TestCase):

@@ -1,0 +1,189 @@
+#include "sheet.h"
+
+#include "diphone.h"
+
+#include <stdio.h>
+#include <stdlib.h>
+#include <string.h>
+
+#define MOST 4096
+#define LONGEST_NAME 32
+#define MOST_GROUPS 5
+
+enum kind { WHOLE, FLOAT, ABSENT };
+
+/* A place in a sheet, and what was found wrong. */
+struct reader {
+    const struct bytes *sheet;
+    size_t place;
+    struct flaw *flaw;
+};
+
+/* Notes a flaw. Answers -1. */
+static int refuse(struct reader *reader, uint32_t number, size_t place, const char *reason)
+{
+    reader->flaw->number = number;
+    reader->flaw->place = place;
+    snprintf(reader->flaw->reason, sizeof reader->flaw->reason, "%s", reason);
+    return -1;
+}
+
+/* The next bytes, or NULL where there are fewer. */
+static const uint8_t *take(struct reader *reader, size_t count)
+{
+    const uint8_t *at = reader->sheet->at + reader->place;
+
+    if (count > reader->sheet->length - reader->place) {
+        refuse(reader, DIPHONE_BAD_SHEET, reader->place, "the sheet is cut short");
+        return NULL;
+    }
+    reader->place += count;
+    return at;
+}
+
+static int refuse_number(struct reader *reader, size_t start, const char *what, const char *problem)
+{
+    char reason[80];
+
+    snprintf(reason, sizeof reason, "%s %s", what, problem);
+    return refuse(reader, DIPHONE_BAD_SHEET, start, reason);
+}
+
+/* Groups of seven bits, lowest first, in the shortest form. */
+static int read_number(struct reader *reader, uint64_t most, const char *what, uint32_t *number)
+{
+    size_t start = reader->place;
+    uint64_t value = 0;
+    int group;
+
+    for (group = 0; group < MOST_GROUPS; group += 1) {
+        const uint8_t *byte = take(reader, 1);
+        char problem[48];
+        if (byte == NULL)
+            return -1;
+        value += (uint64_t)(*byte % 128) << 7 * group;
+        if (*byte >= 128)
+            continue;
+        if (*byte == 0 && group > 0)
+            return refuse_number(reader, start, what, "is not in its shortest form");
+        *number = (uint32_t)value;
+        if (value <= most)
+            return 0;
+        snprintf(problem, sizeof problem, "%llu is above %llu", (unsigned long long)value,
+                 (unsigned long long)most);
+        return refuse_number(reader, start, what, problem);
+    }
+    return refuse_number(reader, start, what, "has more than five groups");
+}
+
+static int read_name(struct reader *reader, struct phone *phone)
+{
+    uint32_t length = 0;
+    size_t i;
+
+    if (read_number(reader, LONGEST_NAME, "a name's length", &length) != 0)
+        return -1;
+    phone->length = length;
+    phone->name = take(reader, length);
+    if (phone->name == NULL)
+        return -1;
+    for (i = 0; i < length; i += 1) {
+        char reason[64];
+        if (phone->name[i] >= 33 && phone->name[i] <= 126)
+            continue;
+        snprintf(reason, sizeof reason, "a name has the byte %u, which is outside 33 to 126",
+                 phone->name[i]);
+        return refuse(reader, DIPHONE_BAD_SHEET, reader->place - length + i, reason);
+    }
+    return 0;
+}
+
+/* Passes over a value. */
+static int read_value(struct reader *reader)
+{
+    size_t start = reader->place;
+    const uint8_t *kind = take(reader, 1);
+    const uint8_t *word;
+    char reason[32];
+
+    if (kind == NULL)
+        return -1;
+    if (*kind == ABSENT)
+        return 0;
+    if (*kind > ABSENT) {
+        snprintf(reason, sizeof reason, "a value of kind %u", *kind);
+        return refuse(reader, DIPHONE_BAD_SHEET, start, reason);
+    }
+    word = take(reader, 4);
+    if (word == NULL)
+        return -1;
+    if (*kind == FLOAT && (u32_at(word, 0) & 0x7F800000u) == 0x7F800000u)
+        return refuse(reader, DIPHONE_NOT_FINITE, start, "a float that is not finite");
+    return 0;
+}
+
+static int read_segments(struct reader *reader, struct phones *phones)
+{
+    uint32_t count;
+    struct phone *phone;
+
+    if (read_number(reader, MOST, "the segment count", &count) != 0)
+        return -1;
+    phones->at = calloc((size_t)count + 1, sizeof *phones->at);
+    if (phones->at == NULL)
+        return refuse(reader, 0, 0, "no memory");
+    phones->count = count;
+    for (phone = phones->at; phone < phones->at + count; phone += 1)
+        if (read_name(reader, phone) != 0 || read_value(reader) != 0 ||
+            read_number(reader, count, "a follower", &phone->follower) != 0)
+            return -1;
+    return 0;
+}
+
+static int read_targets(struct reader *reader)
+{
+    uint32_t count;
+
+    if (read_number(reader, MOST, "the target count", &count) != 0)
+        return -1;
+    for (; count > 0; count -= 1)
+        if (read_value(reader) != 0 || read_value(reader) != 0)
+            return -1;
+    if (reader->place < reader->sheet->length)
+        return refuse(reader, DIPHONE_BAD_SHEET, reader->place, "bytes are left over");
+    return 0;
+}
+
+int read_phones(struct phones *phones, const struct bytes *sheet, struct flaw *flaw)
+{
+    struct reader reader = {sheet, 0, flaw};
+
+    phones->at = NULL;
+    phones->count = 0;
+    if (read_segments(&reader, phones) == 0 && read_targets(&reader) == 0)
+        return 0;
+    release_phones(phones);
+    return -1;
+}
+
+void release_phones(struct phones *phones)
+{
+    free(phones->at);
+    phones->at = NULL;
+    phones->count = 0;
+}
+
+int looks_like_text(const struct bytes *sheet)
+{
+    static const char *const WORDS[] = {"#", "segment", "target"};
+    size_t at = 0, i;
+
+    while (at < sheet->length && strchr(" \t\r\n\v\f", sheet->at[at]) != NULL && sheet->at[at] != 0)
+        at += 1;
+    for (i = 0; i < sizeof WORDS / sizeof *WORDS; i += 1) {
+        size_t length = strlen(WORDS[i]);
+        if (sheet->length - at >= length && memcmp(sheet->at + at, WORDS[i], length) == 0)
+            return 1;
+    }
+    return 0;
+}

@@ -1,0 +1,268 @@
+"""Voice files and call sheets: reads and writes them, for the tools and the tests. docs/FORMATS.md tells the formats.
+
+A writer takes what it is given, fit or not, so that tests can write unfit files; a reader raises Refused with the
+engine's number. Names are bytes. A sheet's value is (WHOLE, number), (FLOAT, bits) or (ABSENT, None).
+"""
+import math
+import struct
+from typing import NamedTuple
+
+
+class Refused(Exception):
+    """What the engine would refuse: its number, the reason, and the byte of the file where that is known."""
+
+    def __init__(self, number, reason, place=None):
+        where = "" if place is None else f" at byte {place}"
+        super().__init__(f"refused {number}{where}: {reason}")
+        self.number, self.reason, self.place = number, reason, place
+
+
+class Cursor:
+    """A place in bytes, up to an end. What cannot be read is refused with the given number."""
+
+    def __init__(self, data, number, what, at=0, end=None):
+        self.data, self.refusal, self.what, self.at = data, number, what, at
+        self.end = len(data) if end is None else end
+
+    def refuse(self, reason, place, number=None):
+        return Refused(number or self.refusal, reason, place)
+
+    def take(self, count):
+        if count > self.end - self.at:
+            raise self.refuse(f"{self.what} is cut short", self.at)
+        self.at += count
+        return self.data[self.at - count : self.at]
+
+    def u32(self):
+        return struct.unpack("<I", self.take(4))[0]
+
+    def name(self):
+        """A name after a byte for its length; it must be UTF-8."""
+        start = self.at
+        name = self.take(self.take(1)[0])
+        if not is_utf8(name):
+            raise self.refuse(f"{self.what} has a name that is not UTF-8", start)
+        return name
+
+
+# ---- numbers
+
+
+def u32(number):
+    return struct.pack("<I", number)
+
+
+def f32(number):
+    return struct.pack("<f", number)
+
+
+def f32_from_bits(bits):
+    return struct.unpack("<f", u32(bits))[0]
+
+
+def is_utf8(data):
+    try:
+        data.decode("utf-8")
+    except UnicodeDecodeError:
+        return False
+    return True
+
+
+# ---- voice files
+
+MAGIC = b"FLRSDAT\x01"
+MULAW, G721 = 0, 1
+HEADER = struct.Struct("<IIIffIfffI")
+ENTRY = struct.Struct("<HBB")
+
+
+class Header(NamedTuple):
+    """The fields of sts.header in order."""
+
+    frames: int = 0
+    order: int = 0
+    rate: int = 8000
+    coeff_min: float = 0
+    coeff_range: float = 0
+    codec: int = MULAW
+    stretch: float = 0
+    f0_mean: float = 0
+    f0_deviation: float = 0
+    fold: int = 0
+
+
+class Section(NamedTuple):
+    """A section: its name, the byte of the file where its data begins, its data."""
+
+    name: bytes
+    place: int
+    data: bytes
+
+
+def sections_of(voice):
+    """The sections in file order, one by one; 1 and 2 are the refusals."""
+    if not voice.startswith(MAGIC):
+        raise Refused(1, "the first 8 bytes are not FLRSDAT and 0x01")
+    cursor = Cursor(voice, 2, "a section", len(MAGIC))
+    while cursor.at < cursor.end:
+        name = cursor.name()
+        length = cursor.u32()
+        yield Section(name, cursor.at, cursor.take(length))
+
+
+def header_of(section):
+    """The header that a section sts.header holds; 5 if it is cut short."""
+    if len(section.data) < HEADER.size:
+        raise Refused(5, f"the header has {len(section.data)} bytes, not {HEADER.size}", section.place)
+    return Header(*HEADER.unpack_from(section.data))
+
+
+def entries_of(voice, section):
+    """The entries that a section dip.index of a voice holds, one by one: name, start and two halves; 7 is the refusal."""
+    cursor = Cursor(voice, 7, "the index", section.place, section.place + len(section.data))
+    for _ in range(cursor.u32()):
+        name = cursor.name()
+        yield (name, *ENTRY.unpack(cursor.take(ENTRY.size)))
+
+
+def section_bytes(name, data):
+    return bytes([len(name)]) + name + u32(len(data)) + data
+
+
+def voice_of(sections):
+    """A voice file of (name, data)."""
+    return MAGIC + b"".join(section_bytes(name, data) for name, data in sections)
+
+
+def index_bytes(entries):
+    """A section dip.index of (name, start, first half, second half)."""
+    parts = [bytes([len(name)]) + name + ENTRY.pack(*place) for name, *place in entries]
+    return u32(len(parts)) + b"".join(parts)
+
+
+def voice_file(header, rows, residuals, entries, backend=None, sizes=None):
+    """A voice file. The frames are as many as the rows (lists of q) and the residuals; sizes are sts.ressize's bytes."""
+    offsets = [0]
+    for residual in residuals:
+        offsets.append(offsets[-1] + len(residual))
+    sections = [
+        (b"voice.backend", backend),
+        (b"sts.header", HEADER.pack(*header._replace(frames=len(rows)))),
+        (b"sts.lpc", b"".join(struct.pack(f"<{len(row)}H", *row) for row in rows)),
+        (b"sts.resoffs", struct.pack(f"<{len(offsets)}I", *offsets)),
+        (b"sts.res", b"".join(residuals)),
+        (b"dip.index", index_bytes(entries)),
+        (b"sts.ressize", None if sizes is None else bytes(sizes)),
+    ]
+    return voice_of([(name, data) for name, data in sections if data is not None])
+
+
+# ---- call sheets
+
+MOST = 4096  # segments, and targets
+LONGEST_NAME = 32
+WHOLE, FLOAT, ABSENT = 0, 1, 2
+NONE = ABSENT, None  # the absent value
+
+
+def real(number):
+    """A value: the f32 nearest to a number that a float holds."""
+    return FLOAT, struct.unpack("<I", f32(number))[0]
+
+
+def number_of(value):
+    """A value as a number; an absent one is 0, a whole one is rounded to f32."""
+    kind, word = value
+    if kind == ABSENT:
+        return 0.0
+    return f32_from_bits(word) if kind == FLOAT else struct.unpack("<f", f32(word))[0]
+
+
+class Segment(NamedTuple):
+    """A segment; the follower counts from 1, 0 is none."""
+
+    name: bytes
+    end: tuple = NONE
+    follower: int = 0
+
+
+class Target(NamedTuple):
+    pos: tuple = NONE
+    f0: tuple = NONE
+
+
+class SheetReader(Cursor):
+    """A place in a sheet. What cannot be read is 8, a float that is not finite 9."""
+
+    def __init__(self, sheet):
+        super().__init__(sheet, 8, "the sheet")
+
+    def number(self, most, what):
+        start, value = self.at, 0
+        for place in range(5):
+            byte = self.take(1)[0]
+            value += byte % 128 << 7 * place
+            if byte < 128:
+                if byte == 0 and place > 0:
+                    raise self.refuse(f"{what} is not in its shortest form", start)
+                if value > most:
+                    raise self.refuse(f"{what} {value} is above {most}", start)
+                return value
+        raise self.refuse(f"{what} has more than five groups", start)
+
+    def phone(self):
+        length = self.number(LONGEST_NAME, "a name's length")
+        start, name = self.at, self.take(length)
+        for place, byte in enumerate(name, start):
+            if not 33 <= byte <= 126:
+                raise self.refuse(f"a name has the byte {byte}, which is outside 33 to 126", place)
+        return name
+
+    def value(self):
+        start, kind = self.at, self.take(1)[0]
+        if kind == ABSENT:
+            return NONE
+        if kind not in (WHOLE, FLOAT):
+            raise self.refuse(f"a value of kind {kind}", start)
+        word = struct.unpack("<i" if kind == WHOLE else "<I", self.take(4))[0]
+        if kind == FLOAT and not math.isfinite(f32_from_bits(word)):
+            raise self.refuse("a float that is not finite", start, 9)
+        return kind, word
+
+
+def read_sheet(sheet):
+    """The segments and the targets of a sheet."""
+    reader = SheetReader(sheet)
+    count = reader.number(MOST, "the segment count")
+    segments = [Segment(reader.phone(), reader.value(), reader.number(count, "a follower")) for _ in range(count)]
+    targets = [Target(reader.value(), reader.value()) for _ in range(reader.number(MOST, "the target count"))]
+    if reader.at < reader.end:
+        raise reader.refuse("bytes are left over", reader.at)
+    return segments, targets
+
+
+def groups(number):
+    """A number as groups of seven bits, lowest first, in the shortest form."""
+    out = bytearray()
+    while number >= 128:
+        out.append(number % 128 + 128)
+        number //= 128
+    out.append(number)
+    return bytes(out)
+
+
+def value_bytes(value):
+    kind, word = value
+    if word is None:
+        return bytes([kind])
+    return bytes([kind]) + struct.pack("<i" if kind == WHOLE else "<I", word)
+
+
+def sheet_bytes(segments, targets=()):
+    out = [groups(len(segments))]
+    for name, end, follower in segments:
+        out += [groups(len(name)), name, value_bytes(end), groups(follower)]
+    out.append(groups(len(targets)))
+    for pos, f0 in targets:
+        out += [value_bytes(pos), value_bytes(f0)]
+    return b"".join(out)
