@@ -13,9 +13,7 @@ enum task { TASK_SPEAK, TASK_HELP, TASK_VERSION };
 struct options {
     const char *voice; /* a file, or - for standard input */
     const char *sheet;
-    uint32_t join;   /* 0 none, 1 simple, 2 modified */
-    uint32_t filter; /* 0 fixed, 1 float */
-    uint32_t fold;   /* 0 off, 1 on */
+    uint32_t join, filter, fold; /* the flags of diphone.h */
     double gain;     /* in decibels */
     enum output output;
     const char *wav; /* the file of OUTPUT_WAV, or - for standard output */
@@ -24,6 +22,9 @@ struct options {
 
 /* Reads the command line. Answers 0, or says on standard error what is wrong and answers -1. */
 int read_options(struct options *options, int count, char **words);
+
+/* The settings of the call. */
+uint32_t settings_word(const struct options *options);
 
 void print_usage(FILE *stream);
 

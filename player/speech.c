@@ -17,8 +17,8 @@ static uint32_t make_plan(struct speech *speech, const struct bytes *voice,
                           const struct bytes *sheet, const struct options *options,
                           uint8_t *summary)
 {
-    return diphone_plan(voice->at, voice->length, sheet->at, sheet->length, options->join,
-                        options->filter, options->fold, speech->index.at, speech->index.length,
+    return diphone_plan(voice->at, voice->length, sheet->at, sheet->length,
+                        settings_word(options), speech->index.at, speech->index.length,
                         speech->marks.at, speech->marks.length, speech->sizes.at,
                         speech->sizes.length, speech->rows.at, speech->rows.length,
                         speech->excitation.at, speech->excitation.length, speech->decoded.at,
@@ -54,8 +54,8 @@ uint32_t plan_speech(struct speech *speech, const struct bytes *voice, const str
     uint32_t refusal;
 
     memset(speech, 0, sizeof *speech);
-    refusal = diphone_need(voice->at, voice->length, sheet->at, sheet->length, options->join,
-                           options->fold, need, sizeof need);
+    refusal = diphone_need(voice->at, voice->length, sheet->at, sheet->length,
+                           settings_word(options), need, sizeof need);
     if (refusal != 0)
         return refusal;
     if (allocate_buffers(speech, need))

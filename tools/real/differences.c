@@ -46,7 +46,7 @@ static size_t take_calls(const struct source *source, cst_voice *phones, uint64_
    engine other than none. */
 static size_t take_single_mark(const struct source *source, cst_voice *phones) {
     struct made_call made = {source, phones, 0};
-    struct options options = {.join = DIPHONE_JOIN_MODIFIED};
+    struct options options = {.join = DIPHONE_JOIN_MODIFIED, .filter = DIPHONE_FILTER_FIXED};
     struct speech speech;
     size_t none[MENDS];
     cst_utterance *utterance = make_single_mark(&made);

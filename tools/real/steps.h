@@ -7,7 +7,7 @@
 #include "../../player/bytes.h"
 #include "source.h"
 
-/* A join and a filter, as diphone.h numbers them. */
+/* A join and a filter, by the flags of diphone.h. */
 struct setting {
     uint32_t join, filter;
     const char *name;
