@@ -16,7 +16,8 @@ use Rattle.units.specs.Selecting.{foundFrom, foundAll, firstTriedFound}
 use Rattle.call.specs.SpokenCall.{SpokenCall}
 use Rattle.worked.specs.Tried.{tried}
 use Rattle.worked.specs.Files.{voiceFile, sheetFile}
-use Rattle.worked.specs.ProvedExamples.{exampleSheet, exampleSettings, exampleBuffers}
+use Rattle.transcript.specs.Program.{programSettings, programBuffers}
+use Rattle.worked.specs.ProvedExamples.{exampleSheet}
 use Rattle.law.specs.TwoCalls.{shortVoice, longVoice, longSheet, TwoCalls}
 
 -- ---- a list of bytes, by a computed test
@@ -36,11 +37,11 @@ are-bytes s e i = ltb-true _ _ (sym (byte-at s i) ∙ every-at (map isByte s) e 
 
 unfoldable short : SpokenCall
 unfolding tried voiceFile shortVoice
-short = record { voiceFile = shortVoice; sheetFile = exampleSheet; settings = exampleSettings; lent = exampleBuffers; bytes = are-bytes shortVoice refl; notRefused = refl }
+short = record { voiceFile = shortVoice; sheetFile = exampleSheet; settings = programSettings; lent = programBuffers; bytes = are-bytes shortVoice refl; notRefused = refl }
 
 unfoldable long : SpokenCall
 unfolding tried voiceFile sheetFile longVoice longSheet
-long = record { voiceFile = longVoice; sheetFile = longSheet; settings = exampleSettings; lent = exampleBuffers; bytes = are-bytes longVoice refl; notRefused = refl }
+long = record { voiceFile = longVoice; sheetFile = longSheet; settings = programSettings; lent = programBuffers; bytes = are-bytes longVoice refl; notRefused = refl }
 
 -- the entry of one stands second in the other
 second : (x y z : Placed) → x .entry ≡ z .entry → (e : Entry) → Stands e (x ∷ []) → Stands e (y ∷ z ∷ [])

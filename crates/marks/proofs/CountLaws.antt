@@ -13,9 +13,9 @@ use Rattle.base.specs.Choice.{pick}
 use Rattle.refusal.specs.declared.Refusal.{Refusal}
 use Rattle.refusal.specs.declared.Refusal.the-variants.{PastLimit, BadSlope, TooManyMarks}
 use Rattle.sheet.specs.declared.Target.{Target}
-use Rattle.sheet.specs.Sheet.{isFinite, asF32}
+use Rattle.sheet.specs.Sheet.{isFinite}
 use Rattle.units.specs.Units.{limit}
-use Rattle.marks.specs.PitchMarks.{Contour, Climb, Stage, Made, mostMarks, goesOn, nextTime, markAt, ends, withMark, climb, slopeOf, contourTo, climbTo, stageAfter, thenMarks, marksFrom, firstStage, pitchMarks}
+use Rattle.marks.specs.PitchMarks.{positionCounted, f0Counted, Contour, Climb, Stage, Made, mostMarks, goesOn, nextTime, markAt, ends, withMark, climb, slopeOf, contourTo, climbTo, stageAfter, thenMarks, marksFrom, firstStage, pitchMarks}
 use Rattle.marks.specs.NaturalMarks.{markRefusal}
 
 -- ---- the marks of targets
@@ -76,8 +76,8 @@ marks-bounded : (rate : Float) (s : Stage) (ts : List Target) → Bounded (s .le
 unfolding marksFrom
 marks-bounded rate s [] = record { most = omega arith; full = λ e. absurd (let z : _≡_ {A = ℕ} 0 1 = cc in omega arith) }
 marks-bounded rate s (t ∷ ts) =
-    let position = asF32 (t .pos) in
-    let f0 = asF32 (t .f0) in
+    let position = positionCounted t in
+    let f0 = f0Counted t in
     let c = climbTo rate s position f0 in
     then-bounded (s .left) c (marksFrom rate (stageAfter c position f0) ts) (c .refusal) refl (climbTo-counted rate s position f0) (marks-bounded rate (stageAfter c position f0) ts)
 

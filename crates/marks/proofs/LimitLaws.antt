@@ -14,9 +14,9 @@ use Rattle.base.proofs.BoundLaws.{Each, nil, cons, each-append}
 use Rattle.refusal.specs.declared.Refusal.{Refusal}
 use Rattle.refusal.specs.declared.Refusal.the-variants.{PastLimit}
 use Rattle.sheet.specs.declared.Target.{Target}
-use Rattle.sheet.specs.Sheet.{isFinite, asF32}
+use Rattle.sheet.specs.Sheet.{isFinite}
 use Rattle.units.specs.Units.{limit}
-use Rattle.marks.specs.PitchMarks.{Contour, goesOn, nextTime, markAt, Climb, climb, Stage, slopeOf, contourTo, climbTo, stageAfter, Made, thenMarks, marksFrom, pitchMarks, firstStage}
+use Rattle.marks.specs.PitchMarks.{positionCounted, f0Counted, Contour, goesOn, nextTime, markAt, Climb, climb, Stage, slopeOf, contourTo, climbTo, stageAfter, Made, thenMarks, marksFrom, pitchMarks, firstStage}
 use Rattle.marks.specs.NaturalMarks.{markRefusal}
 
 abbrev pub Low : ℕ → Type 0
@@ -64,8 +64,8 @@ from-low : (rate : Float) (s : Stage) (ts : List Target) → Each Low (marksFrom
 unfolding marksFrom
 from-low rate s [] = nil
 from-low rate s (t ∷ ts) =
-    let c = climbTo rate s (asF32 (t .pos)) (asF32 (t .f0)) in
-    then-low (c .refusal) (c .marks) _ (target-low rate s (asF32 (t .pos)) (asF32 (t .f0))) (from-low rate (stageAfter c (asF32 (t .pos)) (asF32 (t .f0))) ts)
+    let c = climbTo rate s (positionCounted t) (f0Counted t) in
+    then-low (c .refusal) (c .marks) _ (target-low rate s (positionCounted t) (f0Counted t)) (from-low rate (stageAfter c (positionCounted t) (f0Counted t)) ts)
 
 pub marks-low : (rate : ℕ) (ts : List Target) → Each Low (pitchMarks rate ts .marks)
 unfolding pitchMarks

@@ -12,10 +12,9 @@ use Rattle.voice.specs.Voice.{Voice}
 use Rattle.voice.specs.Periods.{samplesOf}
 use Rattle.voice.proofs.PeriodLaws.{Agree, samplesFrom-same}
 use Rattle.sheet.specs.declared.Target.{Target}
-use Rattle.sheet.specs.Sheet.{asF32}
 use Rattle.units.specs.declared.Unit.{Unit}
 use Rattle.units.proofs.UnitLaws.{Within, nil, cons}
-use Rattle.marks.specs.PitchMarks.{Made, Stage, climbTo, stageAfter, thenMarks, marksFrom, pitchMarks, firstStage}
+use Rattle.marks.specs.PitchMarks.{positionCounted, f0Counted, Made, Stage, climbTo, stageAfter, thenMarks, marksFrom, pitchMarks, firstStage}
 use Rattle.marks.specs.NaturalMarks.{periodCount, marksOfPeriods, placeAfterUnit, naturalMarks, naturalUnits}
 
 -- ---- the modified join: more targets
@@ -29,8 +28,8 @@ from-append : (rate : Float) (s : Stage) (ts us : List Target) → marksFrom rat
 unfolding marksFrom
 from-append rate s [] us e = heads-nil _
 from-append rate s (t ∷ ts) us e =
-    let c = climbTo rate s (asF32 (t .pos)) (asF32 (t .f0)) in
-    let s₁ = stageAfter c (asF32 (t .pos)) (asF32 (t .f0)) in
+    let c = climbTo rate s (positionCounted t) (f0Counted t) in
+    let s₁ = stageAfter c (positionCounted t) (f0Counted t) in
     then-heads (c .refusal) (c .marks) (marksFrom rate s₁ ts) (marksFrom rate s₁ (ts ++ us)) e (from-append rate s₁ ts us)
 
 pub marks-append : (rate : ℕ) (ts us : List Target) → pitchMarks rate ts .refusal ≡ none → Heads (pitchMarks rate ts .marks) (pitchMarks rate (ts ++ us) .marks)

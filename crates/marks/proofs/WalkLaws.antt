@@ -17,7 +17,7 @@ use Rattle.refusal.specs.declared.Refusal.the-variants.{BadSlope, PastLimit, To
 use Rattle.sheet.specs.declared.Target.{Target}
 use Rattle.sheet.specs.declared.Places.{Places}
 use Rattle.sheet.specs.declared.SheetAnswer.the-variants.{Read}
-use Rattle.sheet.specs.Sheet.{Got, fails, gets, target, isFinite, asF32, sheetOf}
+use Rattle.sheet.specs.Sheet.{Got, fails, gets, target, isFinite, sheetOf}
 use Rattle.sheet.specs.Answers.{reads, TargetSaid}
 use Rattle.sheet.specs.Places.{isRead, answerIn, sheetPlaces}
 use Rattle.sheet.proofs.WalkLaws.{Ahead, ahead-some, ahead-none, ahead-step}
@@ -29,7 +29,7 @@ use Rattle.marks.specs.declared.Aimed.the-variants as aim
 use Rattle.marks.specs.declared.Event.{Event}
 use Rattle.marks.specs.declared.Event.the-variants.{Mark, Refused}
 use Rattle.marks.specs.declared.Step.{Step}
-use Rattle.marks.specs.PitchMarks.{Made, Contour, Climb, goesOn, nextTime, markAt, ends, withMark, climb, slopeOf, climbTo, stageAfter, thenMarks, marksFrom, pitchMarks}
+use Rattle.marks.specs.PitchMarks.{positionCounted, f0Counted, Made, Contour, Climb, goesOn, nextTime, markAt, ends, withMark, climb, slopeOf, climbTo, stageAfter, thenMarks, marksFrom, pitchMarks}
 use Rattle.marks.specs.Walking.{contourOf, stageOf, onWay, climbOf, comingTo, readTargets, targetsAhead, coming, stops, Reads, freshWalk, moved, isAhead, aimed, Advanced, later, marked, beginning, marksIn, Steps}
 
 -- ---- the targets ahead
@@ -118,10 +118,10 @@ after rate position f0 ts c = thenMarks (c .refusal) (c .marks) (marksFrom rate 
 
 module _ (sheet : List ℕ) (w : Walk) (t : Target) (next : ℕ) where
   abbrev position : Float
-  position = asF32 (t .pos)
+  position = positionCounted t
 
   abbrev pitch : Float
-  pitch = asF32 (t .f0)
+  pitch = f0Counted t
 
   on-to : (r : Aimed) (ts : List Target) → Aims w position pitch next r → 0 < w .targets → Ahead target sheet (w .targets - 1) next ts
       → coming sheet w ≡ after (w .rate) position pitch ts (up w position pitch next) → Advanced sheet w r

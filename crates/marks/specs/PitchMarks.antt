@@ -111,11 +111,18 @@ abbrev pub thenMarks : Option Refusal → List ℕ → Made → Made
 thenMarks none ms rest = record { refusal = rest .refusal; marks = ms ++ rest .marks }
 thenMarks (some r) ms rest = record { refusal = some r; marks = ms }
 
+-- the position and the f0 that a target counts
+abbrev pub positionCounted : Target → Float
+positionCounted t = asF32 (t .pos)
+
+abbrev pub f0Counted : Target → Float
+f0Counted t = asF32 (t .f0)
+
 unfoldable pub marksFrom : Float → Stage → List Target → Made
 marksFrom rate s [] = record { refusal = none; marks = [] }
 marksFrom rate s (t ∷ ts) =
-    let position = asF32 (t .pos) in
-    let f0 = asF32 (t .f0) in
+    let position = positionCounted t in
+    let f0 = f0Counted t in
     let c = climbTo rate s position f0 in
     thenMarks (c .refusal) (c .marks) (marksFrom rate (stageAfter c position f0) ts)
 

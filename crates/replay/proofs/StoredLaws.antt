@@ -121,5 +121,5 @@ module _ (text : List ℕ) where
 
 -- ---- what is found
 
-pub found-sound : {f : Found} {v kind periods : ℕ} {agrees : Bool} → f ≡ Call v kind periods agrees → Sound f → (v ≤ 32768) × ((kind < 14) × (periods ≤ 41000))
+pub found-sound : {f : Found} {v kind periods : ℕ} {agrees : Bool} → f ≡ Call v kind periods agrees → Sound f → (v ≤ 32768) × ((kind ≤ 13) × (periods ≤ 41000))
 found-sound e s = subst Sound e s

@@ -33,7 +33,7 @@ wrong-more : (t : Tally) (agrees : Bool) → t .wrong ≤ t .calls → wrongWith
 wrong-more t true h = omega arith
 wrong-more t false h = omega arith
 
-pub counted-sound : (t : Tally) (kind periods : ℕ) (agrees : Bool) → Sound t → kind < 14 → periods ≤ 65536 → Sound (counted t kind periods agrees)
+pub counted-sound : (t : Tally) (kind periods : ℕ) (agrees : Bool) → Sound t → kind ≤ 13 → periods ≤ 65536 → Sound (counted t kind periods agrees)
 unfolding counted
 counted-sound t kind periods agrees s h l =
     let w = s .whole in

@@ -13,6 +13,7 @@ use Rattle.call.specs.Buffers.{Buffers, lent}
 use Rattle.call.specs.Numbers.{settingsOf}
 use Rattle.lines.specs.Lines.{refused}
 use Rattle.transcript.specs.CallText.{callText}
+use Rattle.transcript.specs.Program.{voiceLimit, sheetLimit}
 use Rattle.replay.specs.declared.Found.{Found}
 use Rattle.replay.specs.declared.Found.the-variants.{End, Damaged, Call}
 
@@ -23,7 +24,7 @@ abbrev pub lengthAt : List ℕ → ℕ → ℕ
 lengthAt head i = u16At head (i + 1)
 
 abbrev pub limits : List ℕ
-limits = 32768 ∷ 4096 ∷ 8192 ∷ 4096 ∷ 4096 ∷ 2048 ∷ 4096 ∷ 1024 ∷ 41000 ∷ []
+limits = voiceLimit ∷ sheetLimit ∷ 8192 ∷ 4096 ∷ 4096 ∷ 2048 ∷ 4096 ∷ 1024 ∷ 41000 ∷ []
 
 -- none of the first n lengths is above its limit
 unfoldable pub fitting : List ℕ → ℕ → Bool
@@ -60,9 +61,12 @@ unfoldable pub kindUpTo : List ℕ → ℕ → ℕ
 kindUpTo text zero = 0
 kindUpTo text (suc n) = pick (same (refused (suc n)) text) (suc n) (kindUpTo text n)
 
--- the refusals of a call are numbered 1 to 13
+-- the last number of a refusal of a call; a text is of kind 0, spoken, or of a refusal's
+abbrev pub lastKind : ℕ
+lastKind = 13
+
 abbrev pub kindOf : List ℕ → ℕ
-kindOf text = kindUpTo text 13
+kindOf text = kindUpTo text lastKind
 
 -- 1 for the end of a line (10)
 abbrev pub lineEnd : ℕ → ℕ
@@ -98,6 +102,6 @@ countIn End = 0
 countIn Damaged = 0
 countIn (Call v kind periods same) = periods
 
--- a call that was read has a voice of at most 32,768 bytes, one of 14 kinds and at most 41,000 periods
+-- a call that was read has a voice of at most 32,768 bytes, a kind and at most 41,000 periods
 abbrev pub Sound : Found → Type 0
-Sound found = (voiceIn found ≤ 32768) × ((kindIn found < 14) × (countIn found ≤ 41000))
+Sound found = (voiceIn found ≤ 32768) × ((kindIn found ≤ lastKind) × (countIn found ≤ 41000))

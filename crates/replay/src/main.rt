@@ -12,6 +12,9 @@ use libc::STDOUT_FILENO;
 
 // ---- counting
 
+// The last number of a refusal of a call; the kinds of a stored text are 0, spoken, up to this.
+const LAST_KIND: usize = 13;
+
 // How many calls there were, how many of them disagree, the number of the first of those, how many stored
 // texts there were of each kind (0 spoken, n refused n), and how many periods these have.
 struct Tally {
@@ -57,7 +60,7 @@ impl Tally {
 
     // One more call.
     fn counted(self, kind: usize, periods: usize, agrees: bool) -> Tally
-        requires { ⌜ tally.Sound self × ((self .calls < 65536) × ((kind < 14) × (periods ≤ 65536))) ⌝ }
+        requires { ⌜ tally.Sound self × ((self .calls < 65536) × ((kind ≤ stored.lastKind) × (periods ≤ 65536))) ⌝ }
         ensures { λ r. ⌜ (r ≡ tally.counted self kind periods agrees) × tally.Sound r ⌝ }
     {
         let mut kinds = self.kinds;
@@ -74,7 +77,7 @@ impl Tally {
 
 // ---- the head of a stored call
 
-const LIMITS: [usize; 9] = [32768, 4096, 8192, 4096, 4096, 2048, 4096, 1024, 41000];
+const LIMITS: [usize; 9] = [transcript::VOICE_LIMIT, transcript::SHEET_LIMIT, 8192, 4096, 4096, 2048, 4096, 1024, 41000];
 
 // Whether no length of a head is above its limit.
 fn fits(head: &[u8]) -> bool
@@ -145,7 +148,7 @@ fn agrees(head: &[u8], voice: &[u8], sheet: &[u8], want: &[u8]) -> bool
 
 // Whether a text is that of the refusal of a number.
 fn is_refused(number: usize, text: &[u8]) -> bool
-    requires { ⌜ number < 14 ⌝ }
+    requires { ⌜ number ≤ stored.lastKind ⌝ }
     ensures { λ r. ⌜ r ≡ same (lines.refused number) (now (text .entry)) ⌝ }
 {
     let mut line = [0u8; 14];
@@ -155,9 +158,9 @@ fn is_refused(number: usize, text: &[u8]) -> bool
 
 // The kind of a text: the number of its refusal, else 0.
 fn kind_of(text: &[u8]) -> usize
-    ensures { λ r. ⌜ (r ≡ stored.kindOf (now (text .entry))) × (r < 14) ⌝ }
+    ensures { λ r. ⌜ (r ≡ stored.kindOf (now (text .entry))) × (r ≤ stored.lastKind) ⌝ }
 {
-    let mut number = 13;
+    let mut number = LAST_KIND;
     while number > 0 {
         if is_refused(number, text) {
             return number;
@@ -323,7 +326,7 @@ fn print_kind(kind: usize, count: usize) {
 
 fn print_kinds(kinds: [usize; 14]) {
     let mut k = 0;
-    while k < 14 {
+    while k <= LAST_KIND {
         print_kind(k, kinds[k]);
         k += 1;
     }

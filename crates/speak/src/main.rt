@@ -5,10 +5,7 @@ ghost use lib.ListN.{length};
 ghost use Rattle.io.specs.Counts.{Counts};
 ghost use Rattle.lines.specs.Lines.{Puts};
 ghost use Rattle.speak.specs.Speaking as speaks;
-use call::JoinType;
-use call::Settings;
 use libc::STDOUT_FILENO;
-use lpc::ResynthType;
 use refusal::Refusal;
 
 // The program's text for a voice file and a sheet, put to the front of `out`.
@@ -17,10 +14,10 @@ fn put_text(voice: &[u8], sheet: &[u8], out: &mut [u8]) -> usize
     ensures { λ r. ⌜ Puts (now (out .entry)) 0 (speaks.textOf (now (voice .entry)) (now (sheet .entry))) (now (out .exit)) r ⌝ }
     ensures { λ r. ⌜ Counts r (now (out .exit)) ⌝ }
 {
-    if voice.len() > 32768 {
+    if voice.len() > transcript::VOICE_LIMIT {
         return lines::put_refused(refusal::number(Refusal::ShortBuffer), out);
     }
-    if sheet.len() > 4096 {
+    if sheet.len() > transcript::SHEET_LIMIT {
         return lines::put_refused(refusal::number(Refusal::ShortBuffer), out);
     }
     let mut index = [0u8; 8192];
@@ -29,15 +26,10 @@ fn put_text(voice: &[u8], sheet: &[u8], out: &mut [u8]) -> usize
     let mut rows = [0u8; 2048];
     let mut excitation = [255u8; 4096];
     let mut decoded = [0u8; 1024];
-    let settings = Settings {
-        join: JoinType::Simple,
-        filter: ResynthType::Fixed,
-        fold: false,
-    };
     transcript::put_call(
         voice,
         sheet,
-        settings,
+        transcript::program_settings(),
         &mut index,
         &mut marks,
         &mut sizes,

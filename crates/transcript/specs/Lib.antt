@@ -1,2 +1,3 @@
 -- The root of transcript's definitions.
 pub mod CallText
+pub mod Program

@@ -8,11 +8,29 @@ ghost use Rattle.lines.specs.Lines as lines;
 ghost use Rattle.call.specs.Buffers.{lent, buffersAfter};
 ghost use Rattle.call.specs.Pull.{lentOf};
 ghost use Rattle.transcript.specs.CallText as text;
+ghost use Rattle.transcript.specs.Program.{programSettings};
 use call::Answer;
 use call::Called;
+use call::JoinType;
 use call::Settings;
 use call::Summary;
 use lpc::FilterState;
+use lpc::ResynthType;
+
+// The limits of document 01's program: the bytes of its voice file and of its sheet.
+pub const VOICE_LIMIT: usize = 32768;
+pub const SHEET_LIMIT: usize = 4096;
+
+// The settings of document 01's program.
+pub fn program_settings() -> Settings
+    ensures { λ r. ⌜ r ≡ programSettings ⌝ }
+{
+    Settings {
+        join: JoinType::Simple,
+        filter: ResynthType::Fixed,
+        fold: false,
+    }
+}
 
 // How many samples a pull gave.
 fn given(answer: Answer) -> usize

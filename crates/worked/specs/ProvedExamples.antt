@@ -37,6 +37,7 @@ use Rattle.call.specs.declared.Called.the-variants.{Spoken}
 use Rattle.call.specs.Call.{periodsOf}
 use Rattle.call.specs.Buffers.{Buffers, filled, plannedOf}
 use Rattle.transcript.specs.CallText.{callText}
+use Rattle.transcript.specs.Program.{programSettings, programBuffers}
 use Rattle.worked.specs.Files.{headerBytes, entryBytes, voiceFile, sheetFile}
 
 -- ---- what the rows speak of
@@ -138,32 +139,16 @@ exampleVoice = voiceOfHeader exampleHeader 0
 abbrev pub exampleSheet : List ℕ
 exampleSheet = 0x02 ∷ 0x03 ∷ 0x70 ∷ 0x61 ∷ 0x75 ∷ 0x02 ∷ 0x00 ∷ 0x02 ∷ 0x61 ∷ 0x61 ∷ 0x02 ∷ 0x00 ∷ 0x00 ∷ []
 
--- 'simple join, fixed filter, no fold'
-abbrev pub exampleSettings : Settings
-exampleSettings = record { join = Simple; filter = Fixed; fold = false }
-
--- 'an excitation buffer of 4,096 bytes, all 255; .. its others 1,024 each'
-abbrev pub exampleBuffers : Buffers
-exampleBuffers =
-    record {
-      index = replicate 8192 0;
-      marks = replicate 4096 0;
-      sizes = replicate 4096 0;
-      rows = replicate 2048 0;
-      excitation = replicate 4096 255;
-      decoded = replicate 1024 0;
-    }
-
 -- 8000 2 5; period 1 of size 2: 8 132; period 2 of size 3: 0 -8 -132; and what the call filled: the offset of the entry's name-length byte,
 -- marks, sizes, and the excitation
 pub record Printed : Type 0 where
   -- 'it prints exactly'
-  pub text : callText exampleVoice exampleSheet exampleSettings exampleBuffers ≡ ascii "8000 2 5\n1 2 8 132\n2 3 0 -8 -132\n"
-  pub summary : plannedOf exampleVoice exampleSheet exampleSettings exampleBuffers .answer
+  pub text : callText exampleVoice exampleSheet programSettings programBuffers ≡ ascii "8000 2 5\n1 2 8 132\n2 3 0 -8 -132\n"
+  pub summary : plannedOf exampleVoice exampleSheet programSettings programBuffers .answer
       ≡ Spoken (record { rate = 8000; periods = 2; samples = 5; marks = 2; order = 0; entries = 1 })
-  pub periods : map (map signed16) (periodsOf (voiceOf exampleVoice) (sheetOf exampleSheet) exampleSettings)
+  pub periods : map (map signed16) (periodsOf (voiceOf exampleVoice) (sheetOf exampleSheet) programSettings)
       ≡ (pos 8 ∷ pos 132 ∷ []) ∷ (pos 0 ∷ negsuc 7 ∷ negsuc 131 ∷ []) ∷ []
-  pub buffers : filled (voiceOf exampleVoice) (sheetOf exampleSheet) exampleSettings
+  pub buffers : filled (voiceOf exampleVoice) (sheetOf exampleSheet) programSettings
       ≡ record {
         index = bytesOf 8 138;
         marks = bytesOf 4 2 ++ bytesOf 4 5;
