@@ -74,7 +74,8 @@ const USAGE: &str = "usage:
   oracle windows [--seed N] [--from N] [--count N]
   oracle calls [--seed N] [--from N] [--count N]
   oracle real --voice FILE --sheets FOLDER
-  oracle bench [--count N] [--voice FILE --sheets FOLDER] [--only JOIN-FILTER]";
+  oracle bench [--count N] [--voice FILE --sheets FOLDER] [--only JOIN-FILTER]
+  oracle worst [--count N] [--out FOLDER]";
 
 fn main() -> ExitCode {
     let words: Vec<String> = std::env::args().skip(1).collect();
@@ -113,8 +114,10 @@ fn main() -> ExitCode {
         "real" => real::run(&args),
         #[cfg(feature = "calls")]
         "bench" => bench::run(&args),
+        #[cfg(feature = "calls")]
+        "worst" => bench::worst::run(&args),
         #[cfg(not(feature = "calls"))]
-        "calls" | "real" | "bench" => return usage("built without the feature calls"),
+        "calls" | "real" | "bench" | "worst" => return usage("built without the feature calls"),
         other => return usage(&format!("unknown command {other}")),
     };
     match agreed {

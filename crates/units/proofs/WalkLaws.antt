@@ -21,7 +21,7 @@ use Rattle.sheet.proofs.WalkLaws.{Ahead, ahead-some, ahead-step}
 use Rattle.sheet.proofs.ReadLaws.{sheet-ahead}
 use Rattle.units.specs.declared.PairWalk.{PairWalk}
 use Rattle.units.specs.Asked.{Named, Numbered}
-use Rattle.units.specs.Walking.{listIn, segmentsAt, coming, Reached, Walking}
+use Rattle.units.specs.Walking.{listIn, segmentsAt, coming, Reached, Walking, Starts}
 
 -- ---- a segment that was read has a short name
 
@@ -89,6 +89,15 @@ module _ (sheet : List ℕ) (p : Places) (e : answerIn (sheetPlaces sheet) ≡ R
   pub all-are : listIn all ≡ sheetOf sheet .segments
   all-are = ap listIn (sheet-ahead sheet p e .segments .is)
 
+  pub starts-first : Starts sheet (p .segments .count) 0 (p .segments .at)
+  starts-first =
+      let c = p .segments .count in
+      let e : c ≡ c - 0 = omega arith in
+      record {
+        ahead = subst (λ (n : ℕ). isRead (segmentsAt sheet c n (p .segments .at)) ≡ true) e all-read;
+        list = sym (ap (λ (n : ℕ). listIn (segmentsAt sheet c n (p .segments .at))) e) ∙ all-are;
+      }
+
 -- ---- the walk's place among all segments
 
 -- one segment more is passed
@@ -127,3 +136,23 @@ module _ (sheet : List ℕ) (count : ℕ) where
       let f = k .fewer in
       let e : count - x .remaining ≡ suc (count - (x .remaining + 1)) = omega arith in
       sym (ap (nameOf (sheetOf sheet .segments)) e ∙ name-at (sheetOf sheet .segments) (count - (x .remaining + 1)) _ _ (k .placed))
+
+  -- the walk from a segment's place on
+  pub starts-walk : (number at : ℕ) → Starts sheet count number at → number < count → (x : PairWalk) → Steps x (count - number) (listIn (segmentsAt sheet count (count - number) at))
+      → Walking sheet count x × (number + (x .remaining + 1) ≡ count)
+  starts-walk number at s l x t =
+      let e : count - (x .remaining + 1) ≡ number = omega (arith, t .0 .1) in
+      let n : number + (x .remaining + 1) ≡ count = omega (arith, t .0 .1) in
+      (record { reached = t .0 .0; fewer = omega arith; placed = ap (λ (j : ℕ). drop j (sheetOf sheet .segments)) e ∙ sym (s .list) ∙ t .1 }, n)
+
+  -- the place of the segment after the left one
+  pub walking-starts : (w : PairWalk) → Walking sheet count w → Starts sheet count (count - w .remaining) (w .next)
+  walking-starts w k =
+      let f = k .fewer in
+      let e : w .remaining ≡ count - (count - w .remaining) = omega arith in
+      let d : count - w .remaining ≡ count - (w .remaining + 1) + 1 = omega arith in
+      record {
+        ahead = subst (λ (n : ℕ). isRead (segmentsAt sheet count n (w .next)) ≡ true) e (k .reached .ahead);
+        list = sym (ap (λ (n : ℕ). listIn (segmentsAt sheet count n (w .next))) e)
+            ∙ sym (ap (λ (j : ℕ). drop j (sheetOf sheet .segments)) d ∙ drop-next (sheetOf sheet .segments) (count - (w .remaining + 1)) _ _ (k .placed));
+      }

@@ -2,8 +2,8 @@
 use mathlib.Core.Path.{_≡_}
 use mathlib.Core.Bool.{Bool, true, false}
 use mathlib.Core.List.{List, [], _∷_, _++_}
-use Prim.Native.Nat.{ℕ, _+_, _-_, _*_, _<_}
-use lib.ListN.{drop}
+use Prim.Native.Nat.{ℕ, _+_, _-_, _*_, _≤_, _<_}
+use lib.ListN.{drop, getD}
 use Rattle.base.specs.Choice.{pick}
 use Rattle.voice.specs.declared.DiphoneVoice.{DiphoneVoice}
 use Rattle.voice.specs.Voice.{Voice, voiceOf}
@@ -42,6 +42,15 @@ pub record Walking (sheet : List ℕ) (count : ℕ) (w : PairWalk) : Type 0 wher
   pub fewer : w .remaining < count
   pub placed : drop (count - (w .remaining + 1)) (sheetOf sheet .segments) ≡ segmentRead sheet (w .left) ∷ coming sheet count w
 
+-- the segments from a number on, the first of which has 0, are ahead of a place
+pub record Starts (sheet : List ℕ) (count number at : ℕ) : Type 0 where
+  pub ahead : isRead (segmentsAt sheet count (count - number) at) ≡ true
+  pub list : listIn (segmentsAt sheet count (count - number) at) ≡ drop number (sheetOf sheet .segments)
+
+-- the places of every 64th segment, of up to 4,096
+abbrev pub Sampled : List ℕ → ℕ → List ℕ → Type 0
+Sampled sheet count sampled = count ≤ 4096 → (j : ℕ) → 64 * j < count → Starts sheet count (64 * j) (getD sampled j 0)
+
 -- the units that are still to come
 abbrev pub unitsComing : Voice → Bool → List ℕ → ℕ → PairWalk → List Unit
 unitsComing v fold sheet count w =
@@ -71,6 +80,7 @@ manyLeft w = pick (w .halfway) 1 0 + 2 * w .pairs .remaining
 pub record UnitWalking (frames : ℕ) (sheet : List ℕ) (count : ℕ) (w : UnitWalk) : Type 0 where
   pub pairs : Walking sheet count (w .pairs)
   pub second : Inside frames (w .second)
+  pub sampled : Sampled sheet count (w .sampled)
 
 -- a walk from the first unit on has them all before it
 pub record StartsUnits (sheet : List ℕ) (count : ℕ) (w : UnitWalk) : Type 0 where

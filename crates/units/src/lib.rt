@@ -1,5 +1,6 @@
 // The units of a call: half a diphone each, stretched to a target end.
 pub mod ends;
+pub mod followers;
 pub mod names;
 pub mod select;
 pub mod step;
@@ -49,11 +50,13 @@ pub struct PairStep {
     pub walk: PairWalk,
 }
 
-// A walk over units: that over the pairs, and between the two units of a pair the second.
+// A walk over units: that over the pairs, between the two units of a pair the second, and where
+// every 64th segment stands.
 pub struct UnitWalk {
     pub pairs: PairWalk,
     pub second: Unit,
     pub halfway: bool,
+    pub sampled: [usize; 64],
 }
 
 // A unit, and the walk after it.

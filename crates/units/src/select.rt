@@ -6,45 +6,19 @@ ghost use Rattle.phoneset.specs.Phones.{isMinus};
 ghost use Rattle.voice.specs.Voice as voices;
 ghost use Rattle.index.specs.Index.{periodsOf, foundOf, firstOf};
 ghost use Rattle.sheet.specs.Sheet.{sheetOf};
-ghost use Rattle.sheet.specs.Answers.{segmentRead, bytesAt};
-ghost use Rattle.sheet.specs.Followers.{nameOf};
+ghost use Rattle.sheet.specs.Answers.{segmentRead};
 ghost use Rattle.sheet.specs.Places.{answerIn, sheetPlaces};
 ghost use Rattle.units.specs.Asked.{Searchable, Named, Numbered};
+ghost use Rattle.units.specs.Walking.{Sampled};
 ghost use Rattle.units.specs.Selecting as selecting;
 ghost use Rattle.units.specs.Selecting.{foldedName};
 use super::Selection;
-use base::Span;
 use index::EntryPeriods;
 use index::FoundEntry;
 use phoneset::Vc;
 use sheet::Places;
 use sheet::Segment;
 use sheet::SheetAnswer;
-
-// Where the name of a follower stands. `number` is the right segment's, which is the follower as a
-// rule, so that the sheet need not be walked.
-fn follower_name(
-    sheet: &[u8],
-    places: Places,
-    follower: usize,
-    right: Segment,
-    number: usize,
-) -> Span
-    requires { ⌜
-        (answerIn (sheetPlaces (now sheet)) ≡ SheetAnswer.Read places) ×
-        (Named (now sheet) right × Numbered (now sheet) right number)
-        ⌝ }
-    ensures { λ r.
-        ⌜
-        (bytesAt (now (sheet .entry)) r ≡ nameOf (sheetOf (now (sheet .entry)) .segments) follower) ×
-        (r .at + r .len ≤ length (now (sheet .entry)))
-        ⌝ }
-{
-    if follower == number {
-        return right.name;
-    }
-    sheet::name_of(sheet, places, follower)
-}
 
 // Whether a feature `vc` is `-`.
 fn is_minus(vc: Vc) -> bool
@@ -58,10 +32,18 @@ fn is_minus(vc: Vc) -> bool
 }
 
 // Whether a phone is no vowel and its follower's `vc` is `-`. Folding changes neither.
-fn in_cluster(sheet: &[u8], places: Places, left: Segment, right: Segment, number: usize) -> bool
+fn in_cluster(
+    sheet: &[u8],
+    places: Places,
+    sampled: &[usize; 64],
+    left: Segment,
+    right: Segment,
+    number: usize,
+) -> bool
     requires { ⌜
         (answerIn (sheetPlaces (now sheet)) ≡ SheetAnswer.Read places) ×
-        (Named (now sheet) left × (Named (now sheet) right × Numbered (now sheet) right number))
+        (Sampled (now sheet) (places .segments .count) (now sampled) ×
+        (Named (now sheet) left × (Named (now sheet) right × Numbered (now sheet) right number)))
         ⌝ }
     ensures { λ r.
         ⌜ r ≡ selecting.inCluster (sheetOf (now (sheet .entry)) .segments) (segmentRead (now (sheet .entry)) left) ⌝ }
@@ -69,7 +51,7 @@ fn in_cluster(sheet: &[u8], places: Places, left: Segment, right: Segment, numbe
     if phoneset::is_vowel(voice::sections::bytes_at(sheet, left.name)) {
         return false;
     }
-    let follower = follower_name(sheet, places, left.follower, right, number);
+    let follower = super::followers::follower_name(sheet, places, sampled, left.follower, right, number);
     is_minus(phoneset::vc_of(voice::sections::bytes_at(sheet, follower)))
 }
 
@@ -145,6 +127,7 @@ pub fn select(
     index: &[u8],
     sheet: &[u8],
     by: Selection,
+    sampled: &[usize; 64],
     left: Segment,
     right: Segment,
     number: usize,
@@ -152,7 +135,8 @@ pub fn select(
     requires { ⌜
         Searchable (now file) (now index) by ×
         ((answerIn (sheetPlaces (now sheet)) ≡ SheetAnswer.Read (by .places)) ×
-        (Named (now sheet) left × (Named (now sheet) right × Numbered (now sheet) right number)))
+        (Sampled (now sheet) (by .places .segments .count) (now sampled) ×
+        (Named (now sheet) left × (Named (now sheet) right × Numbered (now sheet) right number))))
         ⌝ }
     ensures { λ r.
         ⌜
@@ -166,7 +150,7 @@ pub fn select(
 {
     let left_name = voice::sections::bytes_at(sheet, left.name);
     let right_name = voice::sections::bytes_at(sheet, right.name);
-    if !in_cluster(sheet, by.places, left, right, number) {
+    if !in_cluster(sheet, by.places, sampled, left, right, number) {
         return select_plain(file, index, by, left_name, right_name);
     }
     match find_pair(file, index, by, left_name, right_name, true) {

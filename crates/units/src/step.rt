@@ -5,7 +5,7 @@ ghost use Prim.Native.Nat.{_<_};
 ghost use lib.Dec.{ltb};
 ghost use Rattle.sheet.specs.Places.{answerIn, sheetPlaces};
 ghost use Rattle.units.specs.Asked.{Searchable};
-ghost use Rattle.units.specs.Walking.{Walking, StepsPair, manyLeft, UnitWalking, StartsUnits, StepsUnit};
+ghost use Rattle.units.specs.Walking.{Walking, Sampled, StepsPair, manyLeft, UnitWalking, StartsUnits, StepsUnit};
 use super::PairStep;
 use super::PairWalk;
 use super::Selection;
@@ -21,12 +21,14 @@ pub fn next_units(
     index: &[u8],
     sheet: &[u8],
     by: Selection,
+    sampled: &[usize; 64],
     walk: PairWalk,
 ) -> PairStep
     requires { ⌜
         Searchable (now file) (now index) by ×
         ((answerIn (sheetPlaces (now sheet)) ≡ SheetAnswer.Read (by .places)) ×
-        (Walking (now sheet) (by .places .segments .count) walk × (0 < walk .remaining)))
+        (Sampled (now sheet) (by .places .segments .count) (now sampled) ×
+        (Walking (now sheet) (by .places .segments .count) walk × (0 < walk .remaining))))
         ⌝ }
     ensures { λ r.
         ⌜ StepsPair (now (file .entry)) (by .voice) (by .fold) (now (sheet .entry)) (by .places .segments .count) walk r ⌝ }
@@ -36,7 +38,7 @@ pub fn next_units(
     let left = walk.left;
     let right = after.left;
     let number = segments.count - after.remaining;
-    let e = super::select::select(file, index, sheet, by, left, right, number);
+    let e = super::select::select(file, index, sheet, by, sampled, left, right, number);
     let from = left.end;
     let to = right.end;
     let units = super::ends::unit_pair(by.voice.header.rate, e, from, to);
@@ -59,6 +61,7 @@ pub fn first_unit(sheet: &[u8], places: Places) -> UnitWalk
             target_end: 0,
         },
         halfway: false,
+        sampled: super::followers::sample(sheet, places),
     }
 }
 
@@ -85,6 +88,7 @@ pub fn next_unit(file: &[u8], index: &[u8], sheet: &[u8], by: Selection, walk: U
 {
     let pairs = walk.pairs;
     let second = walk.second;
+    let sampled = walk.sampled;
     if walk.halfway {
         return UnitStep {
             unit: second,
@@ -92,10 +96,11 @@ pub fn next_unit(file: &[u8], index: &[u8], sheet: &[u8], by: Selection, walk: U
                 pairs: pairs,
                 second: second,
                 halfway: false,
+                sampled: sampled,
             },
         };
     }
-    let step = next_units(file, index, sheet, by, pairs);
+    let step = next_units(file, index, sheet, by, &sampled, pairs);
     let units = step.units;
     let first = units.first;
     let last = units.second;
@@ -106,6 +111,7 @@ pub fn next_unit(file: &[u8], index: &[u8], sheet: &[u8], by: Selection, walk: U
             pairs: after,
             second: last,
             halfway: true,
+            sampled: sampled,
         },
     }
 }

@@ -10,7 +10,7 @@ ghost use Rattle.sheet.specs.Answers.{segmentRead};
 ghost use Rattle.sheet.specs.Places.{answerIn, sheetPlaces, isRead};
 ghost use Rattle.units.specs.Selecting.{folded};
 ghost use Rattle.units.specs.Units.{unitsOf, limit, greatestEnd, checkedEnds, greatestIn};
-ghost use Rattle.units.specs.Walking.{Reached, Walking, listIn, segmentsAt, coming};
+ghost use Rattle.units.specs.Walking.{Reached, Starts, Walking, listIn, segmentsAt, coming};
 use super::CheckedEnds;
 use super::PairWalk;
 use sheet::Places;
@@ -33,6 +33,14 @@ fn walk_from(sheet: &[u8], count: usize, n: usize, at: usize) -> PairWalk
         next: step.next,
         remaining: n - 1,
     }
+}
+
+// The walk from a segment on, whose number from 0 and place are given.
+pub fn walk_at(sheet: &[u8], count: usize, number: usize, at: usize) -> PairWalk
+    requires { ⌜ Starts (now sheet) count number at × (number < count) ⌝ }
+    ensures { λ r. ⌜ Walking (now (sheet .entry)) count r × (number + (r .remaining + 1) ≡ count) ⌝ }
+{
+    walk_from(sheet, count, count - number, at)
 }
 
 // The walk from the first segment on.

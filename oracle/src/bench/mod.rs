@@ -4,6 +4,7 @@
 
 mod synthetic;
 mod timed;
+pub mod worst;
 
 use crate::args::Args;
 use crate::call::{Filter, Join, Settings, FILTERS};

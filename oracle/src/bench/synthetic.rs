@@ -118,6 +118,11 @@ fn entries() -> Vec<EntrySpec> {
     names.into_iter().enumerate().map(entry).collect()
 }
 
+/// The names of an index of the extent of flite's, in order.
+pub fn index() -> Vec<Vec<u8>> {
+    entries().into_iter().map(|entry| entry.name).collect()
+}
+
 /// As many phones as give that many pairs, apart from those of the last phone.
 fn phones() -> impl Iterator<Item = &'static str> {
     PHONES.into_iter().take(41)

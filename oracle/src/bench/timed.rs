@@ -38,7 +38,7 @@ unsafe extern "C" {
 
 /// What this thread has used of its processor: other work that takes the
 /// processor away in between does not count. Linux on x86-64.
-fn thread_seconds() -> f64 {
+pub fn thread_seconds() -> f64 {
     const THREAD_CPUTIME: i32 = 3;
     let mut time = [0; 2];
     // SAFETY: a `timespec` is two 64-bit words here.
@@ -180,7 +180,7 @@ impl Timed {
     }
 }
 
-fn request<'a>(voice: &'a [u8], sheet: &'a [u8], settings: Settings) -> Request<'a> {
+pub fn request<'a>(voice: &'a [u8], sheet: &'a [u8], settings: Settings) -> Request<'a> {
     Request {
         voice,
         sheet,
@@ -194,7 +194,7 @@ fn sink(period: &[i16]) -> Flow {
 }
 
 #[inline(never)]
-fn prepare(rust: &DiphoneVoice, utt: &Utterance, join: Join) -> Excitation {
+pub fn prepare(rust: &DiphoneVoice, utt: &Utterance, join: Join) -> Excitation {
     let mut units = access::select_units(rust, utt);
     let marks = match join {
         Join::Simple => access::natural_pitch_marks(rust, &mut units),

@@ -19,7 +19,7 @@ in-cluster-requires c κs = search needs
 select-plain-requires : tie.Need-select-plain-requires
 select-plain-requires c κs =
     let a = c .before .before .before .before .before .before .before in
-    let l = a .pre .1 .1 in
+    let l = a .pre .1 .1 .1 in
     (a .pre .0, (name-short (l .0) (c .before .before .before .bytes-at .ensures), name-short (l .1 .0) (c .before .before .bytes-at2 .ensures)))
 
 returns : tie.Need-returns
@@ -32,7 +32,7 @@ returns c =
 find-pair-requires : tie.Need-find-pair-requires
 find-pair-requires c κs =
     let a = c .before .before .before .before .before .before .before in
-    let l = a .pre .1 .1 in
+    let l = a .pre .1 .1 .1 in
     (a .pre .0, (name-short (l .0) (c .before .before .before .bytes-at .ensures), name-short (l .1 .0) (c .before .before .bytes-at2 .ensures)))
 
 enum-known-e : tie.Need-enum-known-e
@@ -44,7 +44,7 @@ enum-told c = search needs
 select-plain-requires-2 : tie.Need-select-plain-requires-2
 select-plain-requires-2 c κs =
     let a = c .before .before .before .before .before .before .before .before .before .before in
-    let l = a .pre .1 .1 in
+    let l = a .pre .1 .1 .1 in
     (a .pre .0, (name-short (l .0) (c .before .before .before .before .before .before .bytes-at .ensures), name-short (l .1 .0) (c .before .before .before .before .before .bytes-at2 .ensures)))
 
 returns-2 : tie.Need-returns-2

@@ -16,7 +16,7 @@ select-requires c κs =
     let a = c .before .before .before .before .before .before .before .before .before in
     let n = c .before .before .before .before .next-pair in
     let w = n .ensures .0 .0 in
-    (a .pre .0, (a .pre .1 .0, (a .pre .1 .1 .0 .reached .named, (w .reached .named, walking-number (a .args .sheet .now) (a .args .by .places .segments .count) (n .result) w))))
+    (a .pre .0, (a .pre .1 .0, (a .pre .1 .1 .0, (a .pre .1 .1 .1 .0 .reached .named, (w .reached .named, walking-number (a .args .sheet .now) (a .args .by .places .segments .count) (n .result) w)))))
 
 unit-pair-requires : tie.Need-unit-pair-requires
 unit-pair-requires c κs =
