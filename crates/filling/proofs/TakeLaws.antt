@@ -25,7 +25,7 @@ use Rattle.voice.proofs.TableLaws.{header-is}
 use Rattle.units.specs.declared.Unit.{Unit}
 use Rattle.units.specs.declared.Selection.{Selection}
 use Rattle.units.specs.declared.UnitWalk.{UnitWalk}
-use Rattle.units.specs.Units.{Inside, limit, endRefusal}
+use Rattle.units.specs.Units.{endingAt, Inside, limit, endRefusal}
 use Rattle.units.specs.Walking.{unitsLeft, StartsUnits}
 use Rattle.marks.specs.NaturalMarks.{periodCount, naturalUnits}
 use Rattle.marks.specs.Rising.{Rising}
@@ -52,7 +52,7 @@ join-more true v place u us = refl
 join-more false v place u us = refl
 
 pub join-natural : (natural : Bool) (v : Voice) (place : ℕ) (u : Unit) (n : ℕ) → natural ≡ true → n ≡ samplesFrom v (u .«first_period») (periodCount u)
-    → record { «first_period» = u .«first_period»; «last_period» = u .«last_period»; «target_end» = place + n } ≡ joinUnit natural v place u
+    → endingAt u (place + n) ≡ joinUnit natural v place u
 join-natural natural v place u n t e = rw (t, e)
 
 pub join-kept : (natural : Bool) (v : Voice) (place : ℕ) (u : Unit) → natural ≡ false → u ≡ joinUnit natural v place u

@@ -21,7 +21,7 @@ use Rattle.units.specs.declared.Selection.{Selection}
 use Rattle.units.specs.declared.Unit.{Unit}
 use Rattle.units.specs.Asked.{Searchable}
 use Rattle.units.specs.Selecting.{folded}
-use Rattle.units.specs.Units.{unitsOf, endRefusal}
+use Rattle.units.specs.Units.{endingAt, unitsOf, endRefusal}
 use Rattle.marks.specs.NaturalMarks.{placeAfterUnit, naturalUnits}
 use Rattle.marks.specs.Rising.{Rising}
 use Rattle.excitation.specs.Taken.{Period, takenFrom, taken, sizesOf, rowsOf, excitationOf, decodedOver}
@@ -56,8 +56,7 @@ pub record CanMark (join : JoinType) (file index sheet : List ℕ) (by : Selecti
 
 -- 'The simple join sums period samples and ignores ends and targets': a unit that begins at a place then ends where it naturally does
 abbrev pub joinUnit : Bool → Voice → ℕ → Unit → Unit
-joinUnit natural v place u =
-    record { «first_period» = u .«first_period»; «last_period» = u .«last_period»; «target_end» = pick natural (placeAfterUnit v place u) (u .«target_end») }
+joinUnit natural v place u = endingAt u (pick natural (placeAfterUnit v place u) (u .«target_end»))
 
 abbrev pub joinUnits : Bool → Voice → ℕ → List Unit → List Unit
 joinUnits natural v place us = pick natural (naturalUnits v place us) us

@@ -79,13 +79,8 @@ fn join_unit(file: &[u8], d: DiphoneVoice, unit: Unit, natural: bool, end_before
     ensures { λ r. ⌜ r ≡ joinUnit natural (voiceOf (now (file .entry))) «end_before» unit ⌝ }
 {
     if natural {
-        let first = unit.first_period;
-        let last = unit.last_period;
-        return Unit {
-            first_period: first,
-            last_period: last,
-            target_end: end_before + excitation::samples_from(file, d, first, last),
-        };
+        let samples = excitation::samples_from(file, d, unit.first_period, unit.last_period);
+        return unit.ending_at(end_before + samples);
     }
     unit
 }

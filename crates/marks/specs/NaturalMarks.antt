@@ -9,7 +9,7 @@ use Rattle.refusal.specs.declared.Refusal.the-variants.{PastLimit, TooManyMarks
 use Rattle.voice.specs.Voice.{Voice}
 use Rattle.voice.specs.Periods.{samplesOf, samplesFrom}
 use Rattle.units.specs.declared.Unit.{Unit}
-use Rattle.units.specs.Units.{limit}
+use Rattle.units.specs.Units.{limit, endingAt}
 
 -- a unit's number of periods
 abbrev pub periodCount : Unit → ℕ
@@ -31,8 +31,7 @@ naturalMarks v place (u ∷ us) = marksOfPeriods v place (u .«first_period») (
 -- the units, each with its target end where it naturally ends
 unfoldable pub naturalUnits : Voice → ℕ → List Unit → List Unit
 naturalUnits v place [] = []
-naturalUnits v place (u ∷ us) =
-    record { «first_period» = u .«first_period»; «last_period» = u .«last_period»; «target_end» = placeAfterUnit v place u } ∷ naturalUnits v (placeAfterUnit v place u) us
+naturalUnits v place (u ∷ us) = endingAt u (placeAfterUnit v place u) ∷ naturalUnits v (placeAfterUnit v place u) us
 
 -- mark by mark: 12 where it is one too many, then 11 where it is above the limit; `left` marks are allowed
 unfoldable pub markRefusal : ℕ → List ℕ → Option Refusal

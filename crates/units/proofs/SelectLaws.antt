@@ -8,6 +8,7 @@ use native.Mathlib.Omega.{arith}
 use lib.Dec.{eqb}
 use lib.ListN.{length, getD}
 use Rattle.base.specs.Choice.{pick}
+use Rattle.base.specs.Lists.{orNext}
 use Rattle.base.specs.Text.{ascii}
 use Rattle.base.specs.Bytes.{Bytes}
 use Rattle.base.proofs.ListLaws.{every-at, length-part}
@@ -126,6 +127,10 @@ module _ (v : Voice) where
   abbrev named : List ℕ → Option Entry
   named n = lookup n (v .entries)
 
+  else-next : (a b : Option Entry) (d : Entry) → orElse (orNext a b) d ≡ orElse a (orElse b d)
+  else-next none b d = refl
+  else-next (some x) b d = refl
+
   found-entry : (o : Option Entry) (x : Entry) (q : EntryPeriods) → foundOf o ≡ Found q → periodsOf (orElse o x) ≡ q
   found-entry none x q e = absurd (let z : _≡_ {A = ℕ} 0 1 = cc in omega arith)
   found-entry (some y) x q e = cc
@@ -144,7 +149,7 @@ module _ (v : Voice) where
   module _ (ss : List SegmentRead) (left right : SegmentRead) where
     tried : (t : Bool) → inCluster ss left ≡ t → entryOf v ss left right ≡ orElse (named (pick t (clusterName (left .name) (right .name)) (plainName (left .name) (right .name)))) (plainEntry v (left .name) (right .name))
     unfolding entryOf firstTried
-    tried t e = rw e
+    tried t e = rw e (else-next _ _ _)
 
     pub tried-plain : inCluster ss left ≡ false → entryOf v ss left right ≡ plainEntry v (left .name) (right .name)
     tried-plain e = tried false e ∙ by (named (plainName (left .name) (right .name)))
@@ -171,7 +176,7 @@ module _ (v : Voice) (P : Entry → Type 0) (found : (n : List ℕ) (e : Entry) 
 
   selected-is : (ss : List SegmentRead) (left right : SegmentRead) → P (entryOf v ss left right)
   unfolding entryOf
-  selected-is ss left right = either (firstTried ss left right) _ (either (plainName (left .name) (right .name)) _ first)
+  selected-is ss left right = subst P (sym (else-next v _ _ _)) (either (firstTried ss left right) _ (either (plainName (left .name) (right .name)) _ first))
 
 -- it ends within the frames
 module _ (file : List ℕ) (d : DiphoneVoice) (o : IsOpen file d) where

@@ -5,6 +5,7 @@ use mathlib.Core.Option.{Option, none, some}
 use Prim.Native.Nat.{ℕ}
 use Rattle.base.specs.Choice.{pick}
 use Rattle.base.specs.Text.{ascii}
+use Rattle.base.specs.Lists.{orNext}
 use Rattle.text.specs.Names.{same}
 use Rattle.voice.specs.Voice.{Entry, Voice, lookup, isSome, sorted}
 use Rattle.index.specs.Index.{firstOf}
@@ -61,14 +62,17 @@ abbrev pub orElse : Option Entry → Entry → Entry
 orElse none d = d
 orElse (some e) d = e
 
--- 'then `left-right`; then the sorted first entry'
+-- the entry found by a name that the pair tries: 'try `left_-_right`; then `left-right`'
+abbrev pub triedEntry : Voice → List SegmentRead → SegmentRead → SegmentRead → Option Entry
+triedEntry v ss left right = orNext (lookup (firstTried ss left right) (v .entries)) (lookup (plainName (left .name) (right .name)) (v .entries))
+
+-- 'then the sorted first entry'
+unfoldable pub entryOf : Voice → List SegmentRead → SegmentRead → SegmentRead → Entry
+entryOf v ss left right = orElse (triedEntry v ss left right) (firstOf (sorted v))
+
+-- Inner: by the plain name alone
 abbrev pub plainEntry : Voice → List ℕ → List ℕ → Entry
 plainEntry v left right = orElse (lookup (plainName left right) (v .entries)) (firstOf (sorted v))
-
--- 'try `left_-_right`; then `left-right`; then the sorted first entry'
-unfoldable pub entryOf : Voice → List SegmentRead → SegmentRead → SegmentRead → Entry
-entryOf v ss left right =
-    orElse (lookup (firstTried ss left right) (v .entries)) (plainEntry v (left .name) (right .name))
 
 -- ---- each pair finds its first-tried name
 

@@ -47,6 +47,10 @@ listed p = p .first ∷ p .second ∷ []
 unfoldable pub unitsOfPair : ℕ → Entry → Float → Float → List Unit
 unitsOfPair rate e left right = listed (pairOf (periodsOf e) (endsOf rate left right))
 
+-- a unit with another target end
+abbrev pub endingAt : Unit → ℕ → Unit
+endingAt u end = record { «first_period» = u .«first_period»; «last_period» = u .«last_period»; «target_end» = end }
+
 -- a unit's periods are among so many, and at most 255: 'two halves u8'
 pub record Inside (frames : ℕ) (u : Unit) : Type 0 where
   pub rising : u .«first_period» ≤ u .«last_period»

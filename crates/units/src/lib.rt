@@ -6,6 +6,8 @@ pub mod select;
 pub mod step;
 pub mod walk;
 
+ghost use mathlib.Core.Path.{_≡_};
+ghost use Rattle.units.specs.Units.{endingAt};
 use sheet::Places;
 use sheet::Segment;
 use voice::DiphoneVoice;
@@ -16,6 +18,19 @@ pub struct Unit {
     pub first_period: usize,
     pub last_period: usize,
     pub target_end: usize,
+}
+
+impl Unit {
+    // The unit with another target end.
+    pub fn ending_at(self, end: usize) -> Unit
+        ensures { λ r. ⌜ r ≡ endingAt self end ⌝ }
+    {
+        Unit {
+            first_period: self.first_period,
+            last_period: self.last_period,
+            target_end: end,
+        }
+    }
 }
 
 // The two units of a pair of phones.
