@@ -16,7 +16,7 @@ build() {
     shift
     # The words of $compile are apart.
     # shellcheck disable=SC2086
-    "$@" -o "$work/$name" "$repo/tests/c/hello.cc" $compile
+    "$@" -o "$work/$name" "$repo/examples/hello.c" $compile
     "$work/$name" "$repo/examples/example.flv" "$repo/examples/example.sht" >"$work/out"
     printf '8 132 0 -8 -132\n' | cmp -s - "$work/out" || { echo "install: $name gives $(cat "$work/out")"; exit 1; }
 }

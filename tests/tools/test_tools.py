@@ -1,4 +1,4 @@
-"""Tests of tools/sheet, tools/voice-info, tools/make-example, tools/make-edges and tools/draw."""
+"""Tests of tools/formats.py, sheet, voice-info, draw, draw-crates, believed, make-example and make-edges."""
 import collections
 import contextlib
 import importlib.machinery
@@ -33,7 +33,7 @@ def loaded(name):
     return module
 
 
-TOOLS = {name: loaded(name) for name in ("sheet", "voice-info", "draw")}
+TOOLS = {name: loaded(name) for name in ("sheet", "voice-info", "draw", "draw-crates", "believed")}
 
 
 def run(tool, *words):
@@ -418,6 +418,57 @@ class Draw(unittest.TestCase):
             self.assertTrue(message.startswith("draw: "), message)
         for words in [(), (YARD, "--from", "2", "--to", "1"), (YARD, "--width", "1"), (YARD, "--out", "a.png")]:
             self.assertEqual(run_alone("draw", *words, given=SPOKEN)[0], 2, words)
+
+
+CRATES = """\
+# Leaves.
+base:
+text: base
+
+# Above.
+voice: base text
+index: base text voice
+other: base io
+"""
+
+
+class Pages(unittest.TestCase):
+    """Pages that are made: the list of what is to be believed, and the picture of the crates."""
+
+    def test_up_to_date(self):
+        self.assertEqual(run("believed", "--check")[:2], (0, "the list in docs/PROOFS.md is up to date\n"))
+        self.assertEqual(run("draw-crates", "--check")[:2], (0, "docs/crates.svg is up to date\n"))
+
+    def test_command_line(self):
+        for tool in ("believed", "draw-crates"):
+            self.assertEqual(run(tool, "--other")[0], 2)
+            self.assertEqual(run(tool, "--help")[0], 0)
+
+    def test_layers(self):
+        """A line to each crate below that no other of those named needs; programs' libraries have no box."""
+        tool = TOOLS["draw-crates"]
+        found = tool.layers(CRATES)
+        self.assertEqual({heading: list(crates) for heading, crates in found.items()}, {"Leaves": ["base", "text"], "Above": ["voice", "index", "other"]})
+        needs = {name: named for crates in found.values() for name, named in crates.items()}
+        self.assertEqual(tool.reduced(needs), {"base": [], "text": ["base"], "voice": ["text"], "index": ["voice"], "other": ["base"]})
+        self.assertEqual(tool.columns(found["Above"]), [["voice", "other"], ["index"]])
+        picture = ElementTree.fromstring(tool.drawn(CRATES))
+        kinds = collections.Counter(part.get("class") for part in picture)
+        self.assertEqual((kinds["box"], kinds["line"]), (5, 4))
+
+    def test_believed(self):
+        """What a contract cites, and what that imports; not what only a proof uses."""
+        reached = TOOLS["believed"].reached()
+        for module in [("call", "Buffers"), ("law", "Demand3"), ("ulaw", "Ulaw"), ("lpc", "Fixed"), ("refusal", "Number")]:
+            self.assertIn(module, reached)
+        inner = {tuple(line.split("/")[1::2]) for line in run("believed", "--inner")[1].split()}
+        self.assertIn(("lpc_fixed", "Values.antt"), inner)
+        self.assertFalse({(crate, f"{module}.antt") for crate, module in reached} & inner)
+        source = "ghost use Rattle.a.specs.One.{first, second};\nghost use Rattle.b.specs.Two as two;\n"
+        cited = TOOLS["believed"].cited
+        self.assertEqual(list(cited(source, "pub fn f() ensures { second }\n{")), [("a", "One")])
+        self.assertEqual(list(cited(source, "ensures { two.third }")), [("b", "Two")])
+        self.assertEqual(list(cited(source, "ensures { third }")), [])
 
 
 class Examples(unittest.TestCase):

@@ -1,5 +1,5 @@
-/* Speaks a call with the simple join, in C or in C++: prints its samples. The README's program, with its
- * tests of memory and files. */
+/* Speaks a call with the simple join and prints its samples: hello VOICE SHEET. In C or in C++; the README has
+ * the line that compiles it. */
 #include "diphone.h"
 
 #include <stdio.h>
