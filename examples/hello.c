@@ -47,6 +47,7 @@ static size_t number(const uint8_t *report, int i)
 int main(int count, char **words)
 {
     static const size_t width[6] = {8, 4, 4, 2, 1, 1};
+    const uint32_t settings = DIPHONE_JOIN_SIMPLE | DIPHONE_FILTER_FIXED;
     uint8_t need[DIPHONE_NEED_BYTES], state[DIPHONE_STATE_BYTES], summary[DIPHONE_SUMMARY_BYTES];
     struct buffer lent[6], samples;
     const char *separator = "";
@@ -54,12 +55,11 @@ int main(int count, char **words)
     if (count != 3)
         return 2;
     const struct buffer voice = file_of(words[1]), sheet = file_of(words[2]);
-    if (diphone_need(voice.at, voice.length, sheet.at, sheet.length, DIPHONE_JOIN_SIMPLE, 0, need, sizeof need) != 0)
+    if (diphone_need(voice.at, voice.length, sheet.at, sheet.length, settings, need, sizeof need) != 0)
         return 1;
     for (int i = 0; i < 6; i += 1)
         lent[i] = room(width[i] * number(need, i));
-    if (diphone_plan(voice.at, voice.length, sheet.at, sheet.length, DIPHONE_JOIN_SIMPLE, DIPHONE_FILTER_FIXED, 0,
-                     lent[0].at, lent[0].length, lent[1].at, lent[1].length, lent[2].at, lent[2].length, lent[3].at,
+    if (diphone_plan(voice.at, voice.length, sheet.at, sheet.length, settings, lent[0].at, lent[0].length, lent[1].at, lent[1].length, lent[2].at, lent[2].length, lent[3].at,
                      lent[3].length, lent[4].at, lent[4].length, lent[5].at, lent[5].length, state, sizeof state,
                      summary, sizeof summary) != 0)
         return 1;

@@ -21,7 +21,7 @@ use Rattle.refusal.specs.declared.Refusal.{Refusal}
 use Rattle.refusal.specs.declared.Refusal.the-variants.{ShortBuffer}
 use Rattle.refusal.specs.Number.{answerOf}
 use Rattle.voice.specs.declared.DiphoneVoice.{DiphoneVoice}
-use Rattle.voice.specs.declared.Opened.the-variants.{Open}
+use Rattle.voice.specs.declared.Opened.the-variants.{Open, Refused}
 use Rattle.voice.specs.Header.{goodHeader}
 use Rattle.voice.specs.Voice.{placesOf, voiceOf}
 use Rattle.voice.specs.Periods.{decodeRoom}
@@ -89,6 +89,15 @@ opened-by file n d e = by (openRefusal file n) refl e
     by : (r : Option Refusal) → openRefusal file n ≡ r → answerOpening (placesOf file) r ≡ Open d → IsOpen file d × (openRefusal file n ≡ none)
     by none q e = (record { places = let s : placesOf file ≡ d = cc in sym s; fit = opening-none file n q }, q)
     by (some c) q e = absurd (let z : _≡_ {A = ℕ} 0 1 = cc in omega arith)
+
+-- an opening that answers a refusal
+pub refused-by : (file : List ℕ) (n : ℕ) (c : Refusal) → openOf file n ≡ Refused c → openRefusal file n ≡ some c
+unfolding openOf
+refused-by file n c e = by (openRefusal file n) e
+  where
+    by : (r : Option Refusal) → answerOpening (placesOf file) r ≡ Refused c → r ≡ some c
+    by none e = absurd (let z : _≡_ {A = ℕ} 0 1 = cc in omega arith)
+    by (some x) e = let s : x ≡ c = cc in ap (λ (y : Refusal). some y) s
 
 -- ---- the record
 

@@ -29,7 +29,7 @@ fn short_record(voice: &[u8]) -> u32
     ensures { λ r. ⌜ r ≡ answerOf (orNext (openingRefusal (now (voice .entry))) (some Refusal.ShortBuffer)) ⌝ }
 {
     match opening::check(voice) {
-        Opened::Open(_) => refusal::number(Refusal::ShortBuffer),
+        Opened::Open(opened) => refusal::number(Refusal::ShortBuffer),
         Opened::Refused(cause) => refusal::number(cause),
     }
 }
