@@ -1,5 +1,6 @@
 // A call, and its pulls: one pitch period of samples at a time.
 ghost use mathlib.Core.Path.{_≡_};
+ghost use Rattle.refusal.specs.Number.{answerOf};
 ghost use Rattle.call.specs.Buffers as calls;
 ghost use Rattle.call.specs.Pull.{lentOf, pullOf};
 use call::Answer;
@@ -36,6 +37,13 @@ pub fn plan(
         calls.buffersAfter (now (voice .entry)) (now (sheet .entry)) settings
         (calls.lent (now (index .entry)) (now (marks .entry)) (now (sizes .entry)) (now (rows .entry))
         (now (excitation .entry)) (now (decoded .entry)))
+        ⌝ }
+    ensures { λ r.
+        ⌜
+        calls.calledNumber (r .answer) ≡ answerOf
+        (calls.callRefusal (now (voice .entry)) (now (sheet .entry)) settings
+        (calls.lent (now (index .entry)) (now (marks .entry)) (now (sizes .entry)) (now (rows .entry))
+        (now (excitation .entry)) (now (decoded .entry))))
         ⌝ }
 {
     match checking::check(voice, sheet, settings) {
