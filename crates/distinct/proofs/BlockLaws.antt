@@ -16,7 +16,7 @@ use Rattle.text.specs.Names.{same}
 use Rattle.text.proofs.NameLaws.{same-eq, same-refl}
 use Rattle.voice.specs.Voice.{Entry, Placed, Index, entryAt, nextEntry, wholeEntry, withEntry, entriesFrom, lookup, isSome}
 use Rattle.voice.specs.Opening.{distinct}
-use Rattle.distinct.specs.Blocks.{endOf, apart}
+use Rattle.distinct.specs.Blocks.{endOf, apart, blockDiffers}
 use Rattle.index.proofs.OrderLaws.{not-both}
 use Rattle.index.proofs.WalkLaws.{placed, turn, walk-more, walk-cut, Walk}
 
@@ -118,7 +118,8 @@ module _ (bs : List ℕ) where
           record {
             first = ap (λ (i : Index). i .whole) two ∙ r .first;
             second = r .second;
-            list = ap (λ (i : Index). i .list) g ∙ ap (λ (l : List Placed). placed bs at ∷ l) (r .list) ∙ sym (ap (λ (i : Index). i .list ++ entriesFrom k bs (endOf m bs (nextEntry bs at)) .list) two);
+            list = ap (λ (i : Index). i .list) g ∙ ap (λ (l : List Placed). placed bs at ∷ l) (r .list)
+                ∙ sym (ap (λ (i : Index). i .list ++ entriesFrom k bs (endOf m bs (nextEntry bs at)) .list) two);
           }
       go false e ih = not-both (entriesFrom (suc m + k) bs at .whole) w (ap (λ (i : Index). i .whole) (walk-cut bs (suc m + k) at (omega arith) e))
 
@@ -206,7 +207,7 @@ module _ (bs : List ℕ) (at left m : ℕ) (h : at ≤ length bs) (l : m ≤ lef
     pub second : entriesFrom (left - m) (drop at bs) (endOf m (drop at bs) 0) .whole ≡ true
     pub next : entriesFrom (left - m) bs (at + endOf m (drop at bs) 0) .whole ≡ true
     pub all : distinct (entriesFrom left bs at .list)
-        ≡ ((distinct (entriesFrom m (drop at bs) 0 .list) && apart (entriesFrom m (drop at bs) 0 .list) (entriesFrom (left - m) (drop at bs) (endOf m (drop at bs) 0) .list)) && distinct (entriesFrom (left - m) bs (at + endOf m (drop at bs) 0) .list))
+        ≡ (blockDiffers (drop at bs) m (left - m) (endOf m (drop at bs) 0) && distinct (entriesFrom (left - m) bs (at + endOf m (drop at bs) 0) .list))
 
   pub block : Block
   block =
@@ -226,7 +227,7 @@ module _ (bs : List ℕ) (at left m : ℕ) (h : at ≤ length bs) (l : m ≤ lef
         next = sym (n .whole) ∙ s .second;
         all = ap distinct (sym ol) ∙ distinct-moved at (entriesFrom left rest 0 .list) ∙ ap distinct sl
             ∙ distinct-append (entriesFrom m rest 0 .list) (entriesFrom (left - m) rest end .list)
-            ∙ ap (λ (t : Bool). (distinct (entriesFrom m rest 0 .list) && apart (entriesFrom m rest 0 .list) (entriesFrom (left - m) rest end .list)) && t) (sym (distinct-moved at (entriesFrom (left - m) rest end .list)) ∙ ap distinct (n .list));
+            ∙ ap (λ (t : Bool). blockDiffers rest m (left - m) end && t) (sym (distinct-moved at (entriesFrom (left - m) rest end .list)) ∙ ap distinct (n .list));
       }
 
 -- ---- later names, one at a time
@@ -294,8 +295,8 @@ module _ (bs : List ℕ) (at : ℕ) where
     pub record Next (end : ℕ) : Type 0 where
       pub second : entriesFrom (left - m) rest end .whole ≡ true
       pub within : at + end ≤ length bs
-      pub more : (t : Bool) → t ≡ (distinct (entriesFrom m rest 0 .list) && apart (entriesFrom m rest 0 .list) (entriesFrom (left - m) rest end .list)) → t ≡ true → Walk bs distinct x (left - m) (at + end)
-      pub stop : (t : Bool) → t ≡ (distinct (entriesFrom m rest 0 .list) && apart (entriesFrom m rest 0 .list) (entriesFrom (left - m) rest end .list)) → t ≡ false → false ≡ x
+      pub more : (t : Bool) → t ≡ blockDiffers rest m (left - m) end → t ≡ true → Walk bs distinct x (left - m) (at + end)
+      pub stop : (t : Bool) → t ≡ blockDiffers rest m (left - m) end → t ≡ false → false ≡ x
 
     pub next-block : (end : ℕ) → (end ≡ endOf m rest 0) × (end ≤ length rest) → Next end
     next-block end f =

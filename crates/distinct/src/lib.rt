@@ -1,7 +1,7 @@
 // Whether a name stands twice in a voice's index. `entries` has the bytes after the count. A
 // `requires` here is what the caller has tested.
 ghost use mathlib.Core.Path.{_≡_};
-ghost use mathlib.Core.Bool.{true, false, _&&_};
+ghost use mathlib.Core.Bool.{true, false};
 ghost use Prim.Native.Nat.{_+_, _<_, _≤_};
 ghost use lib.ListN.{length};
 ghost use Rattle.text.specs.Names.{same};
@@ -10,7 +10,7 @@ ghost use Rattle.voice.specs.Voice as voices;
 ghost use Rattle.voice.specs.Opening.{distinct};
 ghost use Rattle.index.specs.Index.{Indexable, Filled};
 ghost use Rattle.index.specs.Shuffle.{Shuffled, nameIn};
-ghost use Rattle.distinct.specs.Blocks.{endOf, apart};
+ghost use Rattle.distinct.specs.Blocks.{endOf, apart, blockDiffers};
 use index::FoundEntry;
 
 // Whether the name of the entry at a place is one of the block's: the first `count` entries, whose
@@ -42,7 +42,8 @@ fn stands_apart(entries: &[u8], count: usize, index: &[u8], from: usize, later: 
         ⌝ }
     ensures { λ r.
         ⌜
-        r ≡ apart (entriesFrom count (now (entries .entry)) 0 .list) (entriesFrom later (now (entries .entry)) from .list)
+        r ≡ apart (entriesFrom count (now (entries .entry)) 0 .list)
+        (entriesFrom later (now (entries .entry)) from .list)
         ⌝ }
 {
     let mut at = from;
@@ -126,8 +127,7 @@ fn block_differs(entries: &[u8], count: usize, end: usize, later: usize) -> bool
         ⌝ }
     ensures { λ r.
         ⌜
-        r ≡ (distinct (entriesFrom count (now (entries .entry)) 0 .list) &&
-        apart (entriesFrom count (now (entries .entry)) 0 .list) (entriesFrom later (now (entries .entry)) end .list))
+        r ≡ blockDiffers (now (entries .entry)) count later end
         ⌝ }
 {
     let mut index = blank_places();

@@ -30,6 +30,9 @@ few-ordered (p ∷ q ∷ ps) g = absurd (omega arith)
 
 -- ---- an index that holds a list of places
 
+same-room : (base : ℕ) (ps qs : List Placed) → length ps ≡ length qs → length (indexOf base ps) ≡ length (indexOf base qs)
+same-room base ps qs e = length-index base ps ∙ ap (λ (k : ℕ). 8 * k) e ∙ sym (length-index base qs)
+
 module _ (base : ℕ) (qs : List Placed) (z : Placed) (d : List ℕ) (i : ℕ) (l : i < length qs) where
   abbrev at-i : Placed
   at-i = getD qs i z
@@ -43,7 +46,8 @@ module _ (base : ℕ) (qs : List Placed) (z : Placed) (d : List ℕ) (i : ℕ) (
 
 -- two places exchanged
 module _ (base : ℕ) (f : List Placed) (x : Placed) (m : List Placed) (y : Placed) (r : List Placed) (d : List ℕ) (i j : ℕ) (e : length f ≡ i) (g : length m + suc i ≡ j) where
-  pub places-exchanged : sets (sets (over (indexOf base (f ++ (x ∷ (m ++ (y ∷ r))))) d) (8 * i) (bytesOf 8 (base + y .at))) (8 * j) (bytesOf 8 (base + x .at)) ≡ over (indexOf base (f ++ (y ∷ (m ++ (x ∷ r))))) d
+  pub places-exchanged : sets (sets (over (indexOf base (f ++ (x ∷ (m ++ (y ∷ r))))) d) (8 * i) (bytesOf 8 (base + y .at))) (8 * j) (bytesOf 8 (base + x .at))
+      ≡ over (indexOf base (f ++ (y ∷ (m ++ (x ∷ r))))) d
   places-exchanged =
       let n : length (f ++ (y ∷ m)) ≡ j = length-append f (y ∷ m) ∙ omega arith in
       let one : sets (over (indexOf base (f ++ (x ∷ (m ++ (y ∷ r))))) d) (8 * i) (bytesOf 8 (base + y .at)) ≡ over (indexOf base ((f ++ (y ∷ m)) ++ (y ∷ r))) d =
@@ -91,7 +95,8 @@ module _ (bs : List ℕ) (count base : ℕ) where
           able = s .able;
           places = t .places;
           order = t .order;
-          held = t .held ∙ ap (over (indexOf base (t .places))) (s .held) ∙ over-over (indexOf base (t .places)) (indexOf base (s .places)) d (length-index base (t .places) ∙ ap (λ (k : ℕ). 8 * k) (sym (perm-length (t .order)) ∙ perm-length (s .order)) ∙ sym (length-index base (s .places)));
+          held = t .held ∙ ap (over (indexOf base (t .places))) (s .held)
+              ∙ over-over (indexOf base (t .places)) (indexOf base (s .places)) d (same-room base (t .places) (s .places) (sym (perm-length (t .order)) ∙ perm-length (s .order)));
         }
 
     pub shuffled-sorted : ascending (s .places) ≡ true → index ≡ over (indexOf base (sort all)) d
@@ -150,7 +155,8 @@ module _ (bs : List ℕ) (count base : ℕ) where
       let gy : getD back k z ≡ y = getD-drop (suc i) qs k z ∙ ap (λ (m : ℕ). getD qs m z) sj in
       let m = take k back in
       let r = drop (suc k) back in
-      let split : qs ≡ take i qs ++ (x ∷ (m ++ (y ∷ r))) = split-at qs i z (omega arith) ∙ ap (λ (ps : List Placed). take i qs ++ (x ∷ ps)) (split-at back k z (omega arith) ∙ ap (λ (p : Placed). m ++ (p ∷ r)) gy) in
+      let split : qs ≡ take i qs ++ (x ∷ (m ++ (y ∷ r))) =
+      split-at qs i z (omega arith) ∙ ap (λ (ps : List Placed). take i qs ++ (x ∷ ps)) (split-at back k z (omega arith) ∙ ap (λ (p : Placed). m ++ (p ∷ r)) gy) in
       let lf : length (take i qs) ≡ i = length-take-le i qs (omega arith) in
       let lm : length m ≡ k = length-take-le k back (omega arith) in
       let ea : a ≡ base + x .at = e ∙ shuffled-value index index s i (omega arith) in
@@ -208,11 +214,12 @@ module _ (bs : List ℕ) (count base : ℕ) (d index : List ℕ) where
   pub stored-self : Indexable bs count base (length d) → index ≡ over (indexOf base (entriesFrom count bs 0 .list)) d → Shuffled bs count base index index
   stored-self r h = shuffled-self bs count base d index (shuffled-stored r h)
 
-  pub shuffled-anew : Shuffled bs count base d index → (new : List ℕ) → new ≡ over (indexOf base (sort (entriesFrom count bs 0 .list))) index → new ≡ over (indexOf base (sort (entriesFrom count bs 0 .list))) d
+  pub shuffled-anew : Shuffled bs count base d index → (new : List ℕ)
+      → new ≡ over (indexOf base (sort (entriesFrom count bs 0 .list))) index → new ≡ over (indexOf base (sort (entriesFrom count bs 0 .list))) d
   shuffled-anew s new e =
       let ps = entriesFrom count bs 0 .list in
       e ∙ ap (over (indexOf base (sort ps))) (s .held)
-      ∙ over-over (indexOf base (sort ps)) (indexOf base (s .places)) d (length-index base (sort ps) ∙ ap (λ (k : ℕ). 8 * k) (length-sort ps ∙ perm-length (s .order)) ∙ sym (length-index base (s .places)))
+      ∙ over-over (indexOf base (sort ps)) (indexOf base (s .places)) d (same-room base (sort ps) (s .places) (length-sort ps ∙ perm-length (s .order)))
 
 -- ---- a filled index, tested
 

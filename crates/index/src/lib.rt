@@ -10,7 +10,8 @@ ghost use Rattle.text.specs.Names.{before};
 ghost use Rattle.voice.specs.Voice.{entryAt, nextEntry, wholeEntry, entriesFrom, sort};
 ghost use Rattle.voice.specs.Voice as voices;
 ghost use Rattle.voice.specs.Opening.{withinFrames, distinct};
-ghost use Rattle.index.specs.Index.{Small, Indexable, Filled, periodsOf, foundOf, ascending, firstOf, indexOf, sortedFrom};
+ghost use Rattle.index.specs.Index.{Small, Indexable, Filled, periodsOf, foundOf, firstOf};
+ghost use Rattle.index.specs.Index.{ascending, indexOf, sortedFrom};
 ghost use Rattle.index.specs.Shuffle.{Shuffled, nameIn};
 use text::Order;
 
@@ -88,7 +89,7 @@ pub fn has_whole_entries(entries: &[u8], count: usize) -> bool
 }
 
 // The numbers of the entry at a place.
-fn periods_at(entries: &[u8], at: usize) -> EntryPeriods
+pub fn periods_at(entries: &[u8], at: usize) -> EntryPeriods
     requires { ⌜ nextEntry (now entries) at ≤ length (now entries) ⌝ }
     ensures { λ r.
         ⌜

@@ -30,11 +30,11 @@ module _ (sheet : List ℕ) (count : ℕ) where
         by-order (64 * j) here
         (λ b. subst (Starts sheet count (64 * j)) (sym (getD-set-other sampled (here / 64) j (w .next) 0 (λ q. omega arith))) (s j b))
         (λ b.
-          let i : j ≡ here / 64 = omega arith in
-          let n : here ≡ 64 * j = omega arith in
-          let v : getD (set sampled (here / 64) (w .next)) j 0 ≡ w .next =
-          ap (λ (m : ℕ). getD (set sampled (here / 64) (w .next)) m 0) i ∙ getD-set-same sampled (here / 64) (w .next) 0 h in
-          subst (Starts sheet count (64 * j)) (sym v) (subst (λ (m : ℕ). Starts sheet count m (w .next)) n (walking-starts sheet count w k)))
+        let i : j ≡ here / 64 = omega arith in
+        let n : here ≡ 64 * j = omega arith in
+        let v : getD (set sampled (here / 64) (w .next)) j 0 ≡ w .next =
+        ap (λ (m : ℕ). getD (set sampled (here / 64) (w .next)) m 0) i ∙ getD-set-same sampled (here / 64) (w .next) 0 h in
+        subst (Starts sheet count (64 * j)) (sym v) (subst (λ (m : ℕ). Starts sheet count m (w .next)) n (walking-starts sheet count w k)))
 
     pub sampled-same : (here % 64 ≡ 0 → ⊥) → SampledTo (here + 1) sampled
     sampled-same e j l = s j (by-order (64 * j) here (λ b. b) (λ b. let n : here ≡ 64 * j = omega arith in absurd (e (omega arith))))

@@ -51,7 +51,14 @@ fn in_cluster(
     if phoneset::is_vowel(voice::sections::bytes_at(sheet, left.name)) {
         return false;
     }
-    let follower = super::followers::follower_name(sheet, places, sampled, left.follower, right, number);
+    let follower = super::followers::follower_name(
+        sheet,
+        places,
+        sampled,
+        left.follower,
+        right,
+        number,
+    );
     is_minus(phoneset::vc_of(voice::sections::bytes_at(sheet, follower)))
 }
 

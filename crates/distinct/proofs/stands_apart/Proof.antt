@@ -9,7 +9,8 @@ use Rattle.distinct.proofs.stands_apart.Statement.{statement}
 use Rattle.distinct.proofs.stands_apart.Tie as tie
 
 abbrev Inv-loop : tie.InvT-loop
-Inv-loop entries count index from later at₀ left₀ at left = Walk entries (apart (entriesFrom count entries 0 .list)) (apart (entriesFrom count entries 0 .list) (entriesFrom later entries from .list)) left at
+Inv-loop entries count index from later at₀ left₀ at left =
+    Walk entries (apart (entriesFrom count entries 0 .list)) (apart (entriesFrom count entries 0 .list) (entriesFrom later entries from .list)) left at
 
 abbrev μ-loop : tie.MeasureT-loop
 μ-loop entries count index from later at₀ left₀ at left = left

@@ -62,12 +62,14 @@ loop-again c =
     let j = c .before in
     let l = j .before .before .before .before in
     let i = l .loop .inv in
-    let n = c .next-pair .ensures .0 in
-    (n .0,
-    ⊎-elim
-    (λ x. passed-stored _ _ (l .loop .walk) (i .0) (l .loop .sampled) (i .1 .1) (i .1 .0) _ (omega (arith, n .1, i .0 .fewer)) (j .if4 .sampled) (l .before .before .if2 .left) (omega arith) (x .0 .taken) (x .1))
-    (λ x. passed-same _ _ (l .loop .walk) (i .0) (l .loop .sampled) (i .1 .1) (i .1 .0) _ (omega (arith, n .1, i .0 .fewer)) (j .if4 .sampled) (x .0 .left) (x .1))
-    (j .if4 .came))
+    let n = c .next-pair .ensures .0 in (
+      n .0,
+      ⊎-elim
+          (λ x. passed-stored _ _ (l .loop .walk) (i .0) (l .loop .sampled) (i .1 .1) (i .1 .0) _ (omega (arith, n .1, i .0 .fewer)) (j .if4 .sampled)
+          (l .before .before .if2 .left) (omega arith) (x .0 .taken) (x .1))
+          (λ x. passed-same _ _ (l .loop .walk) (i .0) (l .loop .sampled) (i .1 .1) (i .1 .0) _ (omega (arith, n .1, i .0 .fewer)) (j .if4 .sampled) (x .0 .left) (x .1))
+          (j .if4 .came),
+    )
 
 returns-3 : tie.Need-returns-3 Inv-loop μ-loop
 returns-3 c few k h = c .before .before .loop .inv .1 .1 k (omega arith)

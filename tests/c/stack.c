@@ -1,0 +1,108 @@
+/* Measures how much stack a call takes: each function runs in a thread whose stack was painted, on
+ * voices of either codec whose index is out of order, in every join and filter. Ends with 0 if none
+ * takes more than the 64 KiB that the header names. */
+#define _XOPEN_SOURCE 700
+#define TEST "stack"
+#include "example.h"
+
+#include <pthread.h>
+#include <stdlib.h>
+
+enum { LIMIT = 64 * 1024, STACK = 256 * 1024, PAINT = 0xC3, LENT = 4096 };
+enum { INDEX, MARKS, SIZES, ROWS, EXCITATION, DECODED, STATE, SUMMARY, BUFFERS };
+enum { OPEN, NEED, PLAN, PULL, FUNCTIONS };
+
+static const char *const names[FUNCTIONS] = {"open", "need", "plan", "pull"};
+static const size_t width[6] = {8, 4, 4, 2, 1, 1};
+
+/* Document 01's sheet: pau and aa, no end and no target; then aa, whose follower is pau. */
+static const uint8_t sheet[] = "\x03\x03pau\x02\x00\x02"
+                               "aa\x02\x01\x02"
+                               "aa\x02\x01";
+static uint8_t lent[BUFFERS][LENT], samples[LENT], need[DIPHONE_NEED_BYTES];
+static uint32_t join, filter;
+
+static int64_t call(int function)
+{
+    size_t len[BUFFERS];
+
+    for (int i = 0; i < BUFFERS; i += 1)
+        len[i] = i < STATE ? width[i] * (size_t)u64_at(need, 8 * (size_t)i) : LENT;
+    switch (function) {
+    case OPEN:
+        return diphone_open(file, length, lent[INDEX], LENT, lent[SUMMARY], LENT);
+    case NEED:
+        return diphone_need(file, length, sheet, sizeof sheet, join, 0, need, sizeof need);
+    case PLAN:
+        return diphone_plan(file, length, sheet, sizeof sheet, join, filter, 0, lent[INDEX], len[INDEX],
+                            lent[MARKS], len[MARKS], lent[SIZES], len[SIZES], lent[ROWS], len[ROWS],
+                            lent[EXCITATION], len[EXCITATION], lent[DECODED], len[DECODED], lent[STATE],
+                            LENT, lent[SUMMARY], LENT);
+    default:
+        return diphone_pull(lent[STATE], LENT, lent[SIZES], len[SIZES], lent[ROWS], len[ROWS],
+                            lent[EXCITATION], len[EXCITATION], samples, LENT);
+    }
+}
+
+static uint8_t *stack;
+static int asked;
+static int64_t answer;
+static const uint8_t *top;
+
+static void *work(void *unused)
+{
+    uint8_t here = 0;
+
+    top = &here;
+    answer = call(asked);
+    return unused;
+}
+
+/* The bytes of stack from the thread's own function down. */
+static size_t taken(int function)
+{
+    pthread_t thread;
+    pthread_attr_t attr;
+    size_t low = 0;
+
+    memset(stack, PAINT, STACK);
+    asked = function;
+    expect(pthread_attr_init(&attr) == 0 && pthread_attr_setstack(&attr, stack, STACK) == 0 &&
+               pthread_create(&thread, &attr, work, NULL) == 0 && pthread_join(thread, NULL) == 0,
+           "a thread runs on the painted stack");
+    pthread_attr_destroy(&attr);
+    while (low < STACK && stack[low] == PAINT)
+        low += 1;
+    return (size_t)(top - (stack + low));
+}
+
+int main(void)
+{
+    size_t most[FUNCTIONS] = {0}, all = 0;
+
+    if (posix_memalign((void **)&stack, 4096, STACK) != 0)
+        return 1;
+    for (uint32_t setting = 0; setting < 12; setting += 1) {
+        example(setting % 2, 32, 2);
+        join = setting / 2 % 3;
+        filter = setting / 6;
+        for (int function = OPEN; function < FUNCTIONS; function += 1) {
+            size_t bytes_taken = taken(function);
+            expect(answer == 0 || (function == PULL && answer >= DIPHONE_DONE), "the call is made");
+            if (bytes_taken > most[function])
+                most[function] = bytes_taken;
+        }
+    }
+    printf("stack: bytes taken by");
+    for (int function = OPEN; function < FUNCTIONS; function += 1) {
+        printf(" %s %lu", names[function], (unsigned long)most[function]);
+        if (most[function] > all)
+            all = most[function];
+    }
+    printf("\n");
+    expect(all > 0 && all <= LIMIT, "no call takes more than 64 KiB of stack");
+    free(stack);
+    if (failures == 0)
+        printf("stack: passed\n");
+    return failures != 0;
+}
