@@ -163,7 +163,7 @@ class Archive(unittest.TestCase):
         self.assertEqual(self.make("--check")[0], 1)
         status, text, message = self.make()
         self.assertEqual((status, text, self.calls()), (0, b"", ["check diphone", "staticlib diphone_c"]))
-        lines = ["1 of 3 base: 4 s", "2 of 3 diphone: proved before", "3 of 3 diphone_c: archived"]
+        lines = ["1 of 3 base: 4 s", "2 of 3 diphone: proved before", "3 of 3 diphone_c: proved, and made into the archive"]
         self.assertEqual(message.splitlines()[1:], lines)
         self.assertEqual((self.make("--check")[0], self.make(), self.calls()), (0, (0, b"", ""), []))
 
