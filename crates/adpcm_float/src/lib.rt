@@ -2,8 +2,6 @@
 // caller's own bounds give.
 ghost use mathlib.Core.Path.{_≡_};
 ghost use Prim.Native.Nat.{_+_, _*_, _<_, _≤_};
-ghost use lib.Dec.{eqb};
-ghost use Rattle.base.specs.Choice.{pick};
 ghost use Rattle.adpcm_float.specs.Floating as block;
 
 // EXP of a magnitude: how many bits it has. Twice it and 1 has one more, and is never 0.

@@ -1,4 +1,5 @@
 -- Laws about the call's definitions.
+pub mod NumberLaws
 pub mod PullLaws
 pub mod MachineLaws
 pub mod CallLaws

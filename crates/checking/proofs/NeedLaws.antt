@@ -1,5 +1,5 @@
 -- What the buffers of a call need.
-use mathlib.Core.Path.{_≡_, refl, sym, ap, subst, _∙_}
+use mathlib.Core.Path.{_≡_, refl, sym, ap, _∙_}
 use mathlib.Core.Bool.{Bool, true, false}
 use mathlib.Core.List.{List, [], _∷_}
 use mathlib.Core.Option.{none}
@@ -22,9 +22,8 @@ use Rattle.sheet.specs.declared.Target.{Target}
 use Rattle.sheet.specs.Sheet.{SegmentRead, Sheet}
 use Rattle.units.specs.declared.Unit.{Unit}
 use Rattle.units.specs.Selecting.{folded}
-use Rattle.units.specs.Units.{limit, greatestEnd, unitsOf}
+use Rattle.units.specs.Units.{greatestEnd, unitsOf}
 use Rattle.units.proofs.UnitLaws.{units-some}
-use Rattle.marks.specs.PitchMarks.{mostMarks}
 use Rattle.marks.specs.NaturalMarks.{naturalUnits}
 use Rattle.marks.specs.Rising.{Rising}
 use Rattle.marks.specs.Checking.{lastOf, upTo}
@@ -58,31 +57,6 @@ module _ (file : List ℕ) (d : DiphoneVoice) (o : IsOpen file d) (c : Counts) (
       let n = entries-count file d o in
       let e : voiceOf file .header .order ≡ d .header .order = ap (λ (h : VoiceHeader). h .order) (header-is file d (o .places)) in
       rw (le-ltb (c .marks) 2 h, n, r, e)
-
--- ---- bounds
-
-pub record Bounded (order : ℕ) (n : Need) : Type 0 where
-  pub fewer : n .periods ≤ n .marks
-  pub few : n .marks ≤ mostMarks
-  pub rows : n .rows ≡ order * n .periods
-  pub low : n .excitation ≤ limit
-
-pub need-bounded : (v : Voice) (c : Counts) → c .marks ≤ mostMarks → c .taken ≤ c .marks → c .last ≤ limit → (n : Need) → n ≡ needBy v c → Bounded (v .header .order) n
-unfolding needBy
-need-bounded v c few fewer low n e = subst (Bounded (v .header .order)) (sym e) (by (ltb (c .marks) 2))
-  where
-    by : (t : Bool)
-        → Bounded (v .header .order)
-        (record {
-          entries = length (v .entries);
-          marks = c .marks;
-          periods = pick t 0 (c .taken);
-          rows = v .header .order * pick t 0 (c .taken);
-          excitation = pick t 0 (c .last);
-          decoded = decodeRoom v;
-        })
-    by true = record { fewer = omega arith; few = few; rows = refl; low = omega arith }
-    by false = record { fewer = fewer; few = few; rows = refl; low = low }
 
 -- ---- marks do not fall
 

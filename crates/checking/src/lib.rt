@@ -10,9 +10,10 @@ ghost use Rattle.sheet.specs.Places.{answerIn, sheetPlaces};
 ghost use Rattle.units.specs.Asked.{Searchable};
 ghost use Rattle.units.specs.Selecting.{folded};
 ghost use Rattle.units.specs.Units.{unitsOf};
+ghost use Rattle.marks.specs.PitchMarks.{mostMarks};
 ghost use Rattle.call.specs.Call.{simplePlan, modifiedPlan, emptyPlan, planBy, planOf};
 ghost use Rattle.checking.specs.Joining.{Joins, needBy};
-ghost use Rattle.checking.specs.Checks.{Checks};
+ghost use Rattle.checking.specs.Checks.{checkedOf};
 use call::JoinType;
 use call::Need;
 use call::Settings;
@@ -62,14 +63,15 @@ fn check_natural(file: &[u8], index: &[u8], sheet: &[u8], by: Selection) -> Join
     ensures { λ r.
         ⌜
         Joins
-        (simplePlan (voiceOf (now (file .entry))) (unitsOf (voiceOf (now (file .entry))) (folded (by .fold) (sheetOf (now (sheet .entry)) .segments))))
+        (simplePlan (voiceOf (now (file .entry)))
+        (unitsOf (voiceOf (now (file .entry))) (folded (by .fold) (sheetOf (now (sheet .entry)) .segments))))
         r
         ⌝ }
 {
     let places = by.places;
     let mut walk = units::step::first_unit(sheet, places);
     let mut place = 0;
-    let mut left = 65536;
+    let mut left = marks::MOST_MARKS;
     while units::step::has_unit(walk) {
         let step = units::step::next_unit(file, index, sheet, by, walk);
         let unit = step.unit;
@@ -89,7 +91,7 @@ fn check_natural(file: &[u8], index: &[u8], sheet: &[u8], by: Selection) -> Join
         }
         walk = step.walk;
     }
-    let count = 65536 - left;
+    let count = marks::MOST_MARKS - left;
     Joined::Made(Counts {
         marks: count,
         taken: count,
@@ -114,7 +116,8 @@ fn check_simple(file: &[u8], sheet: &[u8], by: Selection) -> Joined
     ensures { λ r.
         ⌜
         Joins
-        (simplePlan (voiceOf (now (file .entry))) (unitsOf (voiceOf (now (file .entry))) (folded (by .fold) (sheetOf (now (sheet .entry)) .segments))))
+        (simplePlan (voiceOf (now (file .entry)))
+        (unitsOf (voiceOf (now (file .entry))) (folded (by .fold) (sheetOf (now (sheet .entry)) .segments))))
         r
         ⌝ }
 {
@@ -142,7 +145,8 @@ fn check_modified(sheet: &[u8], places: Places, rate: u32) -> Joined
         ((v : Voice) (fold : Bool) →
         v .header .rate ≡ rate →
         Joins
-        (modifiedPlan v (unitsOf v (folded fold (sheetOf (now (sheet .entry)) .segments))) (sheetOf (now (sheet .entry)) .targets))
+        (modifiedPlan v (unitsOf v (folded fold (sheetOf (now (sheet .entry)) .segments)))
+        (sheetOf (now (sheet .entry)) .targets))
         r)
         ⌝ }
 {
@@ -179,7 +183,8 @@ fn check_join(file: &[u8], sheet: &[u8], by: Selection, join: JoinType) -> Joine
     ensures { λ r.
         ⌜
         Joins
-        (planBy join (voiceOf (now (file .entry))) (folded (by .fold) (sheetOf (now (sheet .entry)) .segments)) (sheetOf (now (sheet .entry)) .targets))
+        (planBy join (voiceOf (now (file .entry)))
+        (folded (by .fold) (sheetOf (now (sheet .entry)) .segments)) (sheetOf (now (sheet .entry)) .targets))
         r
         ⌝ }
 {
@@ -217,7 +222,7 @@ fn check_plan(
 
 // What the buffers of a call with such marks need: fewer than two marks give no period.
 fn need_of(file: &[u8], d: DiphoneVoice, counts: Counts) -> Need
-    requires { ⌜ IsOpen (now file) d × (counts .taken ≤ 65536) ⌝ }
+    requires { ⌜ IsOpen (now file) d × (counts .taken ≤ mostMarks) ⌝ }
     ensures { λ r. ⌜ r ≡ needBy (voiceOf (now (file .entry))) counts ⌝ }
 {
     let decoded = voice::periods::decode_room(file, d);
@@ -250,7 +255,7 @@ fn check_marks(
     settings: Settings,
 ) -> Checked
     requires { ⌜ IsOpen (now file) d × (answerIn (sheetPlaces (now sheet)) ≡ SheetAnswer.Read places) ⌝ }
-    ensures { λ r. ⌜ Checks (now (file .entry)) (now (sheet .entry)) settings r ⌝ }
+    ensures { λ r. ⌜ r ≡ checkedOf (now (file .entry)) (now (sheet .entry)) settings ⌝ }
 {
     match check_plan(file, d, sheet, places, settings) {
         Joined::Refused(cause) => Checked::Refused(cause),
@@ -265,7 +270,7 @@ fn check_marks(
 // Checks 8 to 12, of an open voice.
 fn check_sheet(file: &[u8], d: DiphoneVoice, sheet: &[u8], settings: Settings) -> Checked
     requires { ⌜ IsOpen (now file) d ⌝ }
-    ensures { λ r. ⌜ Checks (now (file .entry)) (now (sheet .entry)) settings r ⌝ }
+    ensures { λ r. ⌜ r ≡ checkedOf (now (file .entry)) (now (sheet .entry)) settings ⌝ }
 {
     match sheet::read_sheet(sheet) {
         SheetAnswer::Refused(cause) => Checked::Refused(cause),
@@ -275,7 +280,7 @@ fn check_sheet(file: &[u8], d: DiphoneVoice, sheet: &[u8], settings: Settings) -
 
 // Checks 1 to 12, of any two files.
 pub fn check(file: &[u8], sheet: &[u8], settings: Settings) -> Checked
-    ensures { λ r. ⌜ Checks (now (file .entry)) (now (sheet .entry)) settings r ⌝ }
+    ensures { λ r. ⌜ r ≡ checkedOf (now (file .entry)) (now (sheet .entry)) settings ⌝ }
 {
     match opening::check(file) {
         Opened::Refused(cause) => Checked::Refused(cause),

@@ -1,5 +1,5 @@
 -- All buffers of a call: what they need, and what is left in them.
-use mathlib.Core.Path.{_≡_, refl, sym, ap, subst, _∙_}
+use mathlib.Core.Path.{_≡_, sym, ap, subst, _∙_}
 use mathlib.Core.Bool.{Bool, true}
 use mathlib.Core.List.{List, []}
 use Prim.Native.Nat.{ℕ, _+_, _*_, _/_, _^_, _≤_, _<_}
@@ -10,10 +10,9 @@ use Rattle.base.specs.Buffers.{over, flat}
 use Rattle.base.specs.Bytes.{bytesOf}
 use Rattle.base.proofs.ListLaws.{every-at}
 use Rattle.base.proofs.BufferLaws.{over-nil}
-use Rattle.container.specs.Sections.{bytesAt}
 use Rattle.voice.specs.declared.DiphoneVoice.{DiphoneVoice}
 use Rattle.voice.specs.Voice.{Voice, voiceOf}
-use Rattle.voice.specs.Opening.{IsOpen, indexFits, indexBytes}
+use Rattle.voice.specs.Opening.{indexFits, indexBytes}
 use Rattle.sheet.specs.declared.Places.{Places}
 use Rattle.sheet.specs.declared.SheetAnswer.the-variants.{Read}
 use Rattle.sheet.specs.Sheet.{Sheet, segment, sheetOf}

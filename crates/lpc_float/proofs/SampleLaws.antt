@@ -6,7 +6,7 @@ use native.Mathlib.Nat.{div-lt-iff-lt-mul, lt-of-lt-of-le, le-trans, le-of-eq, m
 use native.Mathlib.Omega.{arith}
 use borrow.Author.Tests.{leb-true, leb-false}
 use lib.Dec.{T, leb}
-use lib.IntN.{ℤ, pos, negℤ}
+use lib.IntN.{pos, negℤ}
 use lib.Pow.{pow-pos, pow-mono, pow-add, shl-shr, shr-shr}
 use lib.Ieee.{Float, nan, inf, fin, binary32, up, down, fits, ofFields, ofBits, toBits, toSigned}
 use lib.Ieee.Bits.{ofBits-toBits}

@@ -126,10 +126,6 @@ natural-none v place left = refl
 pub natural-length : (v : Voice) (place : ℕ) (u : Unit) (us : List Unit) → length (naturalMarks v place (u ∷ us)) ≡ periodCount u + length (naturalMarks v (placeAfterUnit v place u) us)
 natural-length v place u us = ap length (natural-unit v place u us) ∙ length-append (ofUnit v place u) _ ∙ ap (λ (n : ℕ). n + length (naturalMarks v (placeAfterUnit v place u) us)) (length-unit v place u)
 
-pub natural-length-none : (v : Voice) (place : ℕ) → length (naturalMarks v place []) ≡ 0
-unfolding naturalMarks
-natural-length-none v place = refl
-
 -- ---- the store
 
 -- marks that are stored in two parts

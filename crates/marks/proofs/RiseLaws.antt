@@ -64,10 +64,6 @@ natural-last v place u us =
     last-append place (marksOfPeriods v place (u .«first_period») (periodCount u)) (naturalMarks v (placeAfterUnit v place u) us)
     ∙ ap (λ (m : ℕ). lastOf m (naturalMarks v (placeAfterUnit v place u) us)) (periods-rise v place (u .«first_period») (periodCount u) .1)
 
-pub natural-last-none : (v : Voice) (place : ℕ) → lastOf place (naturalMarks v place []) ≡ place
-unfolding naturalMarks lastOf
-natural-last-none v place = refl
-
 -- ---- the modified join, at a rate of n samples per second
 
 abbrev markOf : Float → Float → ℕ

@@ -8,14 +8,15 @@ use borrow.Author.Tests.{ltb-true, eqb-true, ne-eqb}
 use lib.Dec.{T, ltb, leb, eqb, ltb→lt, leb→le}
 use lib.IntN.{ℤ, pos, negsuc}
 use lib.Pow.{pow-add, pow-pos, pow-lt}
-use lib.Ieee.{Float, nan, inf, fin, Format, binary64, prec, emax, low, up, down, add, mul, div, lt, le, fits, size, round, units, odd, toUnsigned}
+use lib.Ieee.{Float, nan, inf, fin, Format, binary64, prec, emax, low, up, down, add, mul, div, lt, le, fits, size, round, units, odd, ofBits, toUnsigned}
+use lib.Ieee.Bits.{ofBits-toBits}
 use lib.Ieee.Casts.{toUnsigned-lt}
 use lib.Ieee.Exact.{HasValue, round-exact}
 use lib.Ieee.Fits.{core, round-is, down-pos, round-fits}
 use lib.Ieee.Nearest.{div-mono}
 use lib.Ieee.Order.{round-mono}
 use Rattle.base.proofs.CaseLaws.{by-order}
-use Rattle.float.proofs.Value.{same-value}
+use Rattle.float.proofs.Value.{bits-of}
 
 -- a time that f64 holds: not below 0, and no NaN
 pub data Time : Float → Type 0 where
@@ -40,6 +41,11 @@ round-time a c = subst Time (sym e) (units-time _ _ (subst (λ (x : Float). T (f
     e = round-is binary64 false a c
 
 -- ---- rounding a time changes nothing
+
+-- two values of one format that are the same number are equal
+same-value : (f : Format) (v w : Float) (s : Bool) (a c : ℕ) → 0 < c → T (fits f v) → T (fits f w) → HasValue v s a c → HasValue w s a c → v ≡ w
+same-value f v w s a c C p q h k =
+    sym (ofBits-toBits f v p) ∙ ap (ofBits f) (bits-of f v s a c C h ∙ sym (bits-of f w s a c C k)) ∙ ofBits-toBits f w q
 
 split : (i n : ℕ) → i ≤ n → n - i + i ≡ n
 split i n h = omega arith

@@ -18,6 +18,9 @@ ghost use Rattle.marks.specs.Checking.{CanStore};
 use refusal::Refusal;
 use sheet::Places;
 
+// How many marks a call has at most.
+pub const MOST_MARKS: usize = 65536;
+
 // How many marks there are, how many of them are taken, and the last one taken, 0 where there is
 // none; or why they are refused.
 pub enum CheckedMarks {
@@ -251,7 +254,7 @@ fn mark(w: Walk) -> Step
     if 0 < w.left {
         let time = next_time(w);
         let m = mark_at(w, time);
-        if m <= 16777215 {
+        if m <= units::LIMIT {
             return Step {
                 event: Event::Mark(m),
                 walk: later(w, time),
@@ -287,7 +290,7 @@ fn next(sheet: &[u8], w: Walk) -> Step
 }
 
 // The walk before the first target, at a rate in samples per second: the first f0 is 120, and
-// 65,536 marks are allowed.
+// no mark was made yet.
 fn fresh(places: Places, rate: u32) -> Walk
     ensures { λ r. ⌜ r ≡ walking.freshWalk places rate ⌝ }
 {
@@ -301,7 +304,7 @@ fn fresh(places: Places, rate: u32) -> Walk
         position: 0.0,
         f0: 120.0,
         climbs: false,
-        left: 65536,
+        left: MOST_MARKS,
         at: targets.at,
         targets: targets.count,
     }
@@ -319,7 +322,7 @@ fn takes(t: Tally, end: usize, m: usize) -> bool
 
 // One mark more.
 fn tallied(t: Tally, end: usize, m: usize) -> Tally
-    requires { ⌜ (t .taken ≤ t .count) × (t .count < 65536) ⌝ }
+    requires { ⌜ (t .taken ≤ t .count) × (t .count < pitch.mostMarks) ⌝ }
     ensures { λ r. ⌜ r ≡ checking.tallied t m (checking.takes t end m) ⌝ }
 {
     if takes(t, end, m) {

@@ -8,6 +8,7 @@ ghost use Rattle.base.specs.Bytes.{bytesOf};
 ghost use Rattle.voice.specs.Voice.{voiceOf};
 ghost use Rattle.voice.specs.Periods.{samplesFrom};
 ghost use Rattle.voice.specs.Opening.{IsOpen};
+ghost use Rattle.units.specs.Units.{limit};
 ghost use Rattle.marks.specs.NaturalMarks.{marksOfPeriods};
 ghost use Rattle.marks.specs.Checking.{unitMarks, LowPlace, CanStoreUnit};
 use super::UnitMarks;
@@ -24,7 +25,7 @@ pub fn check_unit_marks(
     last: usize,
     left: usize,
 ) -> UnitMarks
-    requires { ⌜ IsOpen (now file) d × (last ≤ d .header .frames) × (place ≤ 16777215) ⌝ }
+    requires { ⌜ IsOpen (now file) d × (last ≤ d .header .frames) × (place ≤ limit) ⌝ }
     ensures { λ r.
         ⌜ (r ≡ unitMarks (voiceOf (now (file .entry))) place first (last - first) left) × LowPlace r ⌝ }
 {
@@ -36,7 +37,7 @@ pub fn check_unit_marks(
             return UnitMarks::Refused(Refusal::TooManyMarks);
         }
         end += voice::periods::period_samples(file, d, p);
-        if 16777215 < end {
+        if units::LIMIT < end {
             return UnitMarks::Refused(Refusal::PastLimit);
         }
         allowed -= 1;

@@ -39,7 +39,8 @@ fn has_good_index(file: &[u8], d: DiphoneVoice) -> bool
 fn check_tables(file: &[u8]) -> Opened
     ensures { λ r.
         ⌜
-        r ≡ openings.answerOpening (placesOf (now (file .entry))) (firstFailing (openings.tableChecks (now (file .entry))))
+        r ≡ openings.answerOpening (placesOf (now (file .entry)))
+        (firstFailing (openings.tableChecks (now (file .entry))))
         ⌝ }
 {
     if !voice::header::is_good(voice::sections::header_bytes(file)) {
@@ -77,8 +78,12 @@ pub fn check(file: &[u8]) -> Opened
 
 // Fills the sorted index of a voice that opens: file offsets of 8 bytes each.
 pub fn fill_index(file: &[u8], d: DiphoneVoice, index: &mut [u8])
-    requires { ⌜ openings.IsOpen (now file) d × (openings.indexFits (voiceOf (now file)) (length (now index)) ≡ true) ⌝ }
-    ensures { λ _. ⌜ now (index .exit) ≡ over (openings.indexBytes (voiceOf (now (file .entry)))) (now (index .entry)) ⌝ }
+    requires { ⌜
+        openings.IsOpen (now file) d ×
+        (openings.indexFits (voiceOf (now file)) (length (now index)) ≡ true)
+        ⌝ }
+    ensures { λ _.
+        ⌜ now (index .exit) ≡ over (openings.indexBytes (voiceOf (now (file .entry)))) (now (index .entry)) ⌝ }
 {
     let entries = voice::sections::bytes_at(file, d.entries);
     index::fill_index(entries, d.count, d.entries.at, index);

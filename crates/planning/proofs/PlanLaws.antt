@@ -1,5 +1,5 @@
 -- A checked call: refused by its buffers, or filled.
-use mathlib.Core.Path.{_≡_, refl, sym, ap, subst, _∙_}
+use mathlib.Core.Path.{_≡_, refl, sym, ap, _∙_}
 use mathlib.Core.Bool.{Bool, true, false}
 use mathlib.Core.List.{List}
 use mathlib.Core.Option.{Option, none, some}
@@ -25,7 +25,8 @@ use Rattle.call.specs.Buffers.{Buffers, needOf, holds, lengthsOf, fits, filled,
 use Rattle.checking.specs.declared.Fit.{Fit}
 use Rattle.checking.specs.declared.Checked.{Checked}
 use Rattle.checking.specs.declared.Checked.the-variants.{Passed, Refused as Fails}
-use Rattle.checking.specs.Checks.{Passes, Checks}
+use Rattle.checking.specs.Checks.{checkedOf, Passes}
+use Rattle.checking.proofs.CheckLaws.{checked-refused, checked-passed}
 use Rattle.filling.specs.Filling.{CanFill}
 use Rattle.planning.specs.Planning.{summaryBy}
 
@@ -115,14 +116,14 @@ module _ (file sheet : List ℕ) (o : Settings) (f : Fit) (h : Passes file sheet
 
 -- ---- what the check answered, by the settings it was given
 
-pub checks-refused : (file sheet : List ℕ) {o p : Settings} {r : Checked} {c : Refusal} → p ≡ o → Checks file sheet p r → r ≡ Fails c → checkRefusal file sheet o ≡ some c
-checks-refused file sheet {o} {p} {r} {c} e k q = subst (λ (x : Settings). Checks file sheet x (Fails c)) e (subst (Checks file sheet p) q k)
+pub checks-refused : (file sheet : List ℕ) {o p : Settings} {r : Checked} {c : Refusal} → p ≡ o → r ≡ checkedOf file sheet p → r ≡ Fails c → checkRefusal file sheet o ≡ some c
+checks-refused file sheet {o} {p} {r} {c} e k q = checked-refused file sheet o r (k ∙ ap (checkedOf file sheet) e) c q
 
-pub checks-passed : (file sheet : List ℕ) {o p : Settings} {r : Checked} {f : Fit} → p ≡ o → Checks file sheet p r → r ≡ Passed f → Passes file sheet o f
-checks-passed file sheet {o} {p} {r} {f} e k q = subst (λ (x : Settings). Checks file sheet x (Passed f)) e (subst (Checks file sheet p) q k)
+pub checks-passed : (file sheet : List ℕ) {o p : Settings} {r : Checked} {f : Fit} → p ≡ o → r ≡ checkedOf file sheet p → r ≡ Passed f → Passes file sheet o f
+checks-passed file sheet {o} {p} {r} {f} e k q = checked-passed file sheet o r (k ∙ ap (checkedOf file sheet) e) f q
 
 -- a refused check
-pub refused-ends : (file sheet : List ℕ) (o : Settings) (b : Buffers) {r : Checked} {c : Refusal} (p : Planned) (after : Buffers) → Checks file sheet o r → r ≡ Fails c → p ≡ refusedBy c → after ≡ b
+pub refused-ends : (file sheet : List ℕ) (o : Settings) (b : Buffers) {r : Checked} {c : Refusal} (p : Planned) (after : Buffers) → r ≡ checkedOf file sheet o → r ≡ Fails c → p ≡ refusedBy c → after ≡ b
     → (p ≡ plannedOf file sheet o b) × (after ≡ buffersAfter file sheet o b)
 refused-ends file sheet o b {r} {c} p after k q x y =
     let n = first-refused file sheet o b c (checks-refused file sheet refl k q) in

@@ -1,13 +1,11 @@
 // A checked call: its buffers tested, then filled.
 ghost use mathlib.Core.Path.{_≡_};
 ghost use mathlib.Core.Bool.{true};
-ghost use lib.ListN.{length};
 ghost use Rattle.voice.specs.Voice.{voiceOf};
 ghost use Rattle.sheet.specs.Sheet.{sheetOf};
 ghost use Rattle.call.specs.Buffers as calls;
 ghost use Rattle.checking.specs.Checks.{Passes};
 ghost use Rattle.planning.specs.Planning as planning;
-ghost use Rattle.base.specs.Buffers.{over};
 use call::Called;
 use call::Lengths;
 use call::Need;
@@ -18,8 +16,6 @@ use checking::Fit;
 use lpc::FilterState;
 use lpc::ResynthType;
 use refusal::Refusal;
-use sheet::Places;
-use voice::DiphoneVoice;
 
 // The answer of a refused call.
 pub fn refused(cause: Refusal) -> Planned

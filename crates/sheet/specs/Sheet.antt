@@ -7,12 +7,11 @@ use lib.Dec.{ltb, leb}
 use lib.IntN.{pos}
 use lib.ListN.{length, take, drop}
 use lib.Ieee.{Float, nan, inf, fin, binary32, ofBits, ofInt}
-use Rattle.base.specs.Choice.{pick}
+use Rattle.base.specs.Choice.{pick, within}
 use Rattle.base.specs.Bytes.{littleEndian}
 use Rattle.base.specs.Words.{signed32}
 use Rattle.refusal.specs.declared.Refusal.{Refusal}
 use Rattle.refusal.specs.declared.Refusal.the-variants.{BadSheet, NotFinite}
-use Rattle.text.specs.Trim.{within}
 use Rattle.sheet.specs.declared.Value.{Value}
 use Rattle.sheet.specs.declared.Value.the-variants.{Int, Float as FloatValue, Absent}
 use Rattle.sheet.specs.declared.Target.{Target}

@@ -29,8 +29,7 @@ use Rattle.units.specs.declared.UnitWalk.{UnitWalk}
 use Rattle.units.specs.Selecting.{foldedSegment, folded, entryOf}
 use Rattle.units.specs.Units.{endsOf, pairOf, listed, Inside, unitsOfPair, unitsFrom, unitsAll, unitsOf}
 use Rattle.units.specs.Walking.{listIn, segmentsAt, coming, Walking, unitsComing, StepsPair, withSecond, unitsLeft, manyLeft, UnitWalking, StartsUnits, StepsUnit}
-use Rattle.units.proofs.UnitLaws.{Within, nil, pair-within}
-use Rattle.units.proofs.SelectLaws.{selected-within, ShortHalves, selected-short}
+use Rattle.units.proofs.SelectLaws.{ShortHalves, selected-short}
 
 -- the segments are folded one by one
 folded-cons : (fold : Bool) (s : SegmentRead) (ss : List SegmentRead) → folded fold (s ∷ ss) ≡ foldedSegment fold s ∷ folded fold ss
@@ -76,22 +75,6 @@ module _ (v : Voice) (fold : Bool) (sheet : List ℕ) (count : ℕ) (w x : PairW
   pub coming-next : unitsComing v fold sheet count w ≡ unitsOfPair (v .header .rate) entry (asF32 (w .left .end)) (asF32 (x .left .end)) ++ unitsComing v fold sheet count x
   unfolding unitsFrom
   coming-next = ap (unitsFrom v ss (foldedSegment fold (segmentRead sheet (w .left)))) (ap (folded fold) e ∙ folded-cons fold (segmentRead sheet (x .left)) (coming sheet count x))
-
--- the periods of every unit are the open voice's
-module _ (file : List ℕ) (d : DiphoneVoice) (o : IsOpen file d) (ss : List SegmentRead) where
-  from-inside : (left : SegmentRead) (rs : List SegmentRead) → Within (d .header .frames) (unitsFrom (voiceOf file) ss left rs)
-  unfolding unitsFrom
-  from-inside left [] = nil
-  from-inside left (right ∷ rs) =
-      pair-within (d .header .frames) (voiceOf file .header .rate) (entryOf (voiceOf file) ss left right) (asF32 (left .end)) (asF32 (right .end)) _ (selected-within file d o ss left right) (from-inside right rs)
-
-  all-inside : (rs : List SegmentRead) → Within (d .header .frames) (unitsAll (voiceOf file) ss rs)
-  unfolding unitsAll
-  all-inside [] = nil
-  all-inside (s ∷ rs) = from-inside s rs
-
-  pub units-inside : Within (d .header .frames) (unitsOf (voiceOf file) ss)
-  units-inside = all-inside ss
 
 pair-inside : (n : ℕ) (e : EntryPeriods) (l r : ℕ) → e .start + e .first + e .second ≤ n → ShortHalves e → let p = pairOf e (record { first = l; second = r }) in Inside n (p .first) × Inside n (p .second)
 pair-inside n e l r h s =

@@ -9,6 +9,9 @@ use sheet::Places;
 use sheet::Segment;
 use voice::DiphoneVoice;
 
+// The greatest mark or target end that a call has.
+pub const LIMIT: usize = 16777215;
+
 // A unit: its first pitch period, the period after its last, and where it should end, in output
 // samples.
 pub struct Unit {

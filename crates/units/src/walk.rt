@@ -103,7 +103,7 @@ pub fn check_ends(sheet: &[u8], places: Places, rate: u32) -> CheckedEnds
         ⌝ }
 {
     let greatest = greatest_end(sheet, places, rate);
-    if 16777215 < greatest {
+    if super::LIMIT < greatest {
         return CheckedEnds::PastLimit;
     }
     CheckedEnds::Fit(greatest)

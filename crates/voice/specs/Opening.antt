@@ -49,13 +49,17 @@ abbrev pub hasSizes : Found → ℕ → Bool
 hasSizes (At s) n = leb n (s .len)
 hasSizes Missing n = true
 
--- 6: `sts.res` has at most 16,777,215 bytes; `sts.lpc` at least frames × order × 2, `sts.ressize` frames and `sts.resoffs` (frames + 1) × 4;
--- the first frames + 1 offsets do not fall, and the last is not past the residual
+-- the greatest length of `sts.res`
+abbrev pub residualLimit : ℕ
+residualLimit = 16777215
+
+-- 6: `sts.res` has at most 16,777,215 bytes; `sts.lpc` at least frames × order × 2, `sts.ressize` frames and `sts.resoffs`
+-- (frames + 1) × 4; the first frames + 1 offsets do not fall, and the last is not past the residual
 unfoldable pub goodTables : Voice → Bool
 goodTables v =
     let n = v .header .frames in
     every
-    (leb (length (v .residual)) 16777215
+    (leb (length (v .residual)) residualLimit
     ∷ leb (n * v .header .order * 2) (length (v .lpc))
     ∷ longEnough (v .sizes) n
     ∷ leb ((n + 1) * 4) (length (v .offsets))

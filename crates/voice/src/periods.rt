@@ -5,7 +5,7 @@ ghost use Rattle.base.specs.Buffers.{flat};
 ghost use Rattle.base.specs.Bytes.{bytesOf};
 ghost use Rattle.voice.specs.Voice.{voiceOf};
 ghost use Rattle.voice.specs.Periods as periods;
-ghost use Rattle.voice.specs.Opening.{IsOpen};
+ghost use Rattle.voice.specs.Opening.{IsOpen, residualLimit};
 use super::DiphoneVoice;
 use base::Span;
 use container::Found;
@@ -21,7 +21,7 @@ fn offset(file: &[u8], d: DiphoneVoice, i: usize) -> usize
 // How many bytes period p has.
 pub fn gap(file: &[u8], d: DiphoneVoice, p: usize) -> usize
     requires { ⌜ IsOpen (now file) d × (p < d .header .frames) ⌝ }
-    ensures { λ r. ⌜ (r ≡ periods.gap (voiceOf (now (file .entry))) p) × (r ≤ 16777215) ⌝ }
+    ensures { λ r. ⌜ (r ≡ periods.gap (voiceOf (now (file .entry))) p) × (r ≤ residualLimit) ⌝ }
 {
     offset(file, d, p + 1) - offset(file, d, p)
 }
@@ -29,7 +29,7 @@ pub fn gap(file: &[u8], d: DiphoneVoice, p: usize) -> usize
 // How many samples period p has.
 pub fn period_samples(file: &[u8], d: DiphoneVoice, p: usize) -> usize
     requires { ⌜ IsOpen (now file) d × (p < d .header .frames) ⌝ }
-    ensures { λ r. ⌜ (r ≡ periods.samplesOf (voiceOf (now (file .entry))) p) × (r ≤ 16777215) ⌝ }
+    ensures { λ r. ⌜ (r ≡ periods.samplesOf (voiceOf (now (file .entry))) p) × (r ≤ residualLimit) ⌝ }
 {
     let sizes = d.sizes;
     match sizes {
@@ -79,8 +79,14 @@ fn larger(a: usize, b: usize) -> usize
 // The first period from `from` on that is longer than `most`, the longest before; the count of frames where
 // none is. A walk that ends there needs no maximum at each step.
 fn next_longer(file: &[u8], d: DiphoneVoice, from: usize, most: usize) -> usize
-    requires { ⌜ IsOpen (now file) d × ((from ≤ d .header .frames) × (most ≡ periods.longest (voiceOf (now file)) from)) ⌝ }
-    ensures { λ r. ⌜ (periods.longest (voiceOf (now (file .entry))) r ≡ most) × ((from ≤ r) × (r ≤ d .header .frames)) ⌝ }
+    requires { ⌜
+        IsOpen (now file) d ×
+        ((from ≤ d .header .frames) × (most ≡ periods.longest (voiceOf (now file)) from))
+        ⌝ }
+    ensures { λ r.
+        ⌜
+        (periods.longest (voiceOf (now (file .entry))) r ≡ most) × ((from ≤ r) × (r ≤ d .header .frames))
+        ⌝ }
 {
     let frames = d.header.frames as usize;
     let mut begin = offset(file, d, from);
@@ -99,7 +105,7 @@ fn next_longer(file: &[u8], d: DiphoneVoice, from: usize, most: usize) -> usize
 // The bytes of the longest period.
 fn longest(file: &[u8], d: DiphoneVoice) -> usize
     requires { ⌜ IsOpen (now file) d ⌝ }
-    ensures { λ r. ⌜ (r ≡ periods.longest (voiceOf (now (file .entry))) (d .header .frames)) × (r ≤ 16777215) ⌝ }
+    ensures { λ r. ⌜ (r ≡ periods.longest (voiceOf (now (file .entry))) (d .header .frames)) × (r ≤ residualLimit) ⌝ }
 {
     let frames = d.header.frames as usize;
     let mut most = 0;

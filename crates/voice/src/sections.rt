@@ -118,7 +118,8 @@ pub fn header_bytes<'a>(file: &'a [u8]) -> &'a [u8]
     ensures { λ r.
         ⌜
         now r ≡
-        parts.bytesAt (now (file .entry)) (parts.spanOf (parts.find (ascii "sts.header") (parts.sections (now (file .entry)) .list)))
+        parts.bytesAt (now (file .entry))
+        (parts.spanOf (parts.find (ascii "sts.header") (parts.sections (now (file .entry)) .list)))
         ⌝ }
 {
     bytes_at(file, container::span_of(find_header(file)))
@@ -126,7 +127,12 @@ pub fn header_bytes<'a>(file: &'a [u8]) -> &'a [u8]
 
 // Where the header, the tables and the index stand.
 pub fn places_of(file: &[u8]) -> DiphoneVoice
-    requires { ⌜ goodHeader (parts.bytesAt (now file) (parts.spanOf (parts.find (ascii "sts.header") (parts.sections (now file) .list)))) ≡ true ⌝ }
+    requires { ⌜
+        goodHeader
+        (parts.bytesAt (now file)
+        (parts.spanOf (parts.find (ascii "sts.header") (parts.sections (now file) .list)))) ≡
+        true
+        ⌝ }
     ensures { λ r. ⌜ r ≡ voices.placesOf (now (file .entry)) ⌝ }
 {
     let index = container::span_of(find_index(file));

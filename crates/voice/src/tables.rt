@@ -9,6 +9,9 @@ ghost use Rattle.voice.specs.Opening as opening;
 use super::DiphoneVoice;
 use container::Found;
 
+// The greatest length of `sts.res`.
+const RESIDUAL_LIMIT: usize = 16777215;
+
 // Whether the first n + 1 offsets do not fall.
 fn is_rising(offsets: &[u8], n: usize) -> bool
     requires { ⌜ 4 * n + 4 ≤ length (now offsets) ⌝ }
@@ -43,7 +46,7 @@ pub fn is_good(file: &[u8], d: DiphoneVoice) -> bool
     ensures { λ r. ⌜ r ≡ opening.goodTables (voiceOf (now (file .entry))) ⌝ }
 {
     let frames = d.header.frames as usize;
-    if d.residual.len > 16777215 {
+    if d.residual.len > RESIDUAL_LIMIT {
         return false;
     }
     if d.lpc.len < frames * (d.header.order as usize) * 2 {

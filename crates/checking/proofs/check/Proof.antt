@@ -1,6 +1,6 @@
 use mathlib.Core.Path.{sym, _∙_}
 use Rattle.opening.proofs.IndexLaws.{open-answer, refused-answer}
-use Rattle.checking.proofs.CheckLaws.{opening-refused}
+use Rattle.checking.proofs.CheckLaws.{opening-refused, refused-checked}
 use borrow.Author.Needs.{needs}
 use Rattle.checking.proofs.check.Statement.{statement}
 use Rattle.checking.proofs.check.Tie as tie
@@ -18,7 +18,7 @@ check-sheet-requires : tie.Need-check-sheet-requires
 check-sheet-requires c κs = open-answer _ _ (sym (c .before .before .before .check .ensures) ∙ c .before .d .given .1)
 
 returns : tie.Need-returns
-returns c = opening-refused _ _ _ _ (refused-answer _ _ (sym (c .before .before .before .check .ensures) ∙ c .before .cause .given .1))
+returns c = refused-checked _ _ _ _ (opening-refused _ _ _ _ (refused-answer _ _ (sym (c .before .before .before .check .ensures) ∙ c .before .cause .given .1)))
 
 returns-2 : tie.Need-returns-2
 returns-2 c = search needs

@@ -1,6 +1,6 @@
 use mathlib.Core.Path.{sym, ap, _∙_}
 use Rattle.sheet.specs.Places.{refusalOf}
-use Rattle.checking.proofs.CheckLaws.{sheet-refused}
+use Rattle.checking.proofs.CheckLaws.{read-refusal, sheet-refused, refused-checked}
 use borrow.Author.Needs.{needs}
 use Rattle.checking.proofs.check_sheet.Statement.{statement}
 use Rattle.checking.proofs.check_sheet.Tie as tie
@@ -18,7 +18,9 @@ check-marks-requires : tie.Need-check-marks-requires
 check-marks-requires c κs = (c .before .before .before .before .before .before .pre, sym (c .before .before .before .read-sheet .ensures .0) ∙ c .before .places .given .1)
 
 returns : tie.Need-returns
-returns c = let s = c .before .before .before .before .before .before in sheet-refused _ _ _ _ (s .pre .fit) (sym (c .before .before .before .read-sheet .ensures .1) ∙ ap refusalOf (c .before .cause .given .1))
+returns c =
+    let s = c .before .before .before .before .before .before in
+    refused-checked _ _ _ _ (sheet-refused _ _ _ _ (s .pre .fit) (sym (read-refusal _) ∙ ap refusalOf (sym (c .before .before .before .read-sheet .ensures .0) ∙ c .before .cause .given .1)))
 
 returns-2 : tie.Need-returns-2
 returns-2 c = search needs

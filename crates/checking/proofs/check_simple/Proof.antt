@@ -7,46 +7,33 @@ use Rattle.units.proofs.AskedLaws.{index-filled}
 use borrow.Author.Needs.{needs}
 use Rattle.checking.proofs.check_simple.Statement.{statement}
 use Rattle.checking.proofs.check_simple.Tie as tie
-use Rattle.checking.proofs.check_simple.Reads as reads
-use Rattle.checking.proofs.check_simple.Lts as lts
-use Rattle.checking.proofs.blank_index.Reads as blank-index-reads
-use Rattle.checking.proofs.check_natural.Reads as check-natural-reads
-use Rattle.opening.proofs.fill_index.Reads as fill-index-reads
 
--- src/lib.rt:122:21
 blank-index-requires : tie.Need-blank-index-requires
 blank-index-requires c κs = search needs
 
--- src/lib.rt:124:36
 slice-aggregate-check-natural : tie.Need-slice-aggregate-check-natural
 slice-aggregate-check-natural c = search needs
 
--- src/lib.rt:124:9
 check-natural-requires : tie.Need-check-natural-requires
 check-natural-requires c κs =
     let p = c .before .before .before .before .before .before .before .pre in
     (record { opened = p .0 .0; filled = λ e. absurd (true≢false (sym e ∙ p .0 .1)) }, p .1)
 
--- src/lib.rt:124:9
 returns : tie.Need-returns
 returns c = search needs
 
--- src/lib.rt:126:38
 slice-aggregate-fill-index : tie.Need-slice-aggregate-fill-index
 slice-aggregate-fill-index c = search needs
 
--- src/lib.rt:126:5
 fill-index-requires : tie.Need-fill-index-requires
 fill-index-requires c κs =
     let s = c .before .before .before .before .before .before .before in
     let b = c .before .before .before .blank-index in
     (s .pre .0 .0, fits-by (s .args .file .now) (s .args .by .voice) (s .pre .0 .0) (length (b .result)) (omega (arith, b .ensures, c .before .if1 .left)))
 
--- src/lib.rt:134:25
 slice-aggregate-check-natural-2 : tie.Need-slice-aggregate-check-natural-2
 slice-aggregate-check-natural-2 c = search needs
 
--- src/lib.rt:134:5
 check-natural-requires-2 : tie.Need-check-natural-requires-2
 check-natural-requires-2 c κs =
     let s = c .before .before .before .before .before .before .before .before .before .before .before in
@@ -54,7 +41,6 @@ check-natural-requires-2 c κs =
     let f = fits-by (s .args .file .now) (s .args .by .voice) (s .pre .0 .0) (length (b .result)) (omega (arith, b .ensures, c .before .before .before .before .before .if1 .left)) in
     (record { opened = s .pre .0 .0; filled = λ t. index-filled (s .args .file .now) (s .args .by .voice) (s .pre .0 .0) (b .result) _ f (c .before .before .before .fill-index .ensures) (omega (arith, s .good .0 .1)) }, s .pre .1)
 
--- src/lib.rt:109:1
 returns-2 : tie.Need-returns-2
 returns-2 c = search needs
 

@@ -5,59 +5,43 @@ use Rattle.planning.proofs.PlanLaws.{fits-is, short-ends}
 use borrow.Author.Needs.{needs}
 use Rattle.planning.proofs.plan_checked.Statement.{statement}
 use Rattle.planning.proofs.plan_checked.Tie as tie
-use Rattle.planning.proofs.plan_checked.Reads as reads
-use Rattle.planning.proofs.plan_checked.Lts as lts
-use Rattle.planning.proofs.holds.Reads as holds-reads
-use Rattle.planning.proofs.plan_filled.Reads as plan-filled-reads
-use Rattle.planning.proofs.refused.Reads as refused-reads
 
--- src/lib.rt:162:9
 holds-requires : tie.Need-holds-requires
 holds-requires c κs = search needs
 
--- src/lib.rt:163:9
 refused-requires : tie.Need-refused-requires
 refused-requires c κs = search needs
 
--- src/lib.rt:163:9
 returns : tie.Need-returns
 returns c =
     let s = c .before .before .before .before .before .before .before .before .before .before .before in
     let a = s .args in
     short-ends (a .file .now) (a .sheet .now) (a .settings) (a .fit) (s .pre) (lent (a .index .now) (a .marks .now) (a .sizes .now) (a .rows .now) (a .excitation .now) (a .decoded .now)) _ _ (sym (c .before .before .holds .ensures) ∙ not-true _ (c .before .if1 .taken)) (c .refused .ensures) refl
 
--- src/lib.rt:165:5
 plan-filled-requires : tie.Need-plan-filled-requires
 plan-filled-requires c κs =
     let s = c .before .before .before .before .before .before .before .before .before .before .before .before .before .before .before .before in
     let a = s .args in
     (s .pre, fits-is (a .file .now) (a .sheet .now) (a .settings) (a .fit) (s .pre) (lent (a .index .now) (a .marks .now) (a .sizes .now) (a .rows .now) (a .excitation .now) (a .decoded .now)) ∙ sym (c .before .before .before .before .before .before .before .holds .ensures) ∙ not-false _ (c .before .before .before .before .before .before .if1 .left))
 
--- src/lib.rt:138:1
 same-length : tie.Need-same-length
 same-length c = search needs
 
--- src/lib.rt:138:1
 same-length-2 : tie.Need-same-length-2
 same-length-2 c = search needs
 
--- src/lib.rt:138:1
 same-length-3 : tie.Need-same-length-3
 same-length-3 c = search needs
 
--- src/lib.rt:138:1
 same-length-4 : tie.Need-same-length-4
 same-length-4 c = search needs
 
--- src/lib.rt:138:1
 same-length-5 : tie.Need-same-length-5
 same-length-5 c = search needs
 
--- src/lib.rt:138:1
 same-length-6 : tie.Need-same-length-6
 same-length-6 c = search needs
 
--- src/lib.rt:138:1
 returns-2 : tie.Need-returns-2
 returns-2 c = search needs
 

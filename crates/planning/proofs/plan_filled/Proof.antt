@@ -3,56 +3,40 @@ use Rattle.planning.proofs.PlanLaws.{can-fill, spoken-ends}
 use borrow.Author.Needs.{needs}
 use Rattle.planning.proofs.plan_filled.Statement.{statement}
 use Rattle.planning.proofs.plan_filled.Tie as tie
-use Rattle.planning.proofs.plan_filled.Reads as reads
-use Rattle.planning.proofs.plan_filled.Lts as lts
-use Rattle.lpc.proofs.FilterState.fresh.Reads as fresh-reads
-use Rattle.filling.proofs.fill.Reads as fill-reads
-use Rattle.planning.proofs.summary.Reads as summary-reads
 
--- src/lib.rt:111:5
 fill-requires : tie.Need-fill-requires
 fill-requires c κs =
     let s = c .before .before .before .before .before .before .before .before .before .before .before .before .before .before in
     let a = s .args in
     can-fill (a .file .now) (a .sheet .now) (a .settings) (a .fit) (s .pre .0) (lent (a .index .now) (a .marks .now) (a .sizes .now) (a .rows .now) (a .excitation .now) (a .decoded .now)) (s .pre .1)
 
--- src/lib.rt:127:32
 summary-requires : tie.Need-summary-requires
 summary-requires c κs = search needs
 
--- src/lib.rt:130:13
 cast-fresh : tie.Need-cast-fresh
 cast-fresh c = search needs
 
--- src/lib.rt:128:16
 fresh-requires : tie.Need-fresh-requires
 fresh-requires c κs = search needs
 
--- src/lib.rt:95:1
 same-length : tie.Need-same-length
 same-length c = search needs
 
--- src/lib.rt:95:1
 same-length-2 : tie.Need-same-length-2
 same-length-2 c = search needs
 
--- src/lib.rt:95:1
 same-length-3 : tie.Need-same-length-3
 same-length-3 c = search needs
 
--- src/lib.rt:95:1
 same-length-4 : tie.Need-same-length-4
 same-length-4 c = search needs
 
--- src/lib.rt:95:1
 same-length-5 : tie.Need-same-length-5
 same-length-5 c = search needs
 
--- src/lib.rt:95:1
 same-length-6 : tie.Need-same-length-6
 same-length-6 c = search needs
 
--- src/lib.rt:95:1
 returns : tie.Need-returns
 returns c =
     let s = c .before .before .before .before .before .before .before .before .before .before .before .before .before .before .before .before .before .before .before .before .before .before .before .before .before .before .before .before .before .before .before .before in
