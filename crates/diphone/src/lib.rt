@@ -26,17 +26,18 @@ pub fn plan(
 ) -> Planned
     ensures { λ r.
         ⌜
-        r ≡ calls.plannedOf (now (voice .entry)) (now (sheet .entry)) settings
+        (r ≡ calls.plannedOf (now (voice .entry)) (now (sheet .entry)) settings
         (calls.lent (now (index .entry)) (now (marks .entry)) (now (sizes .entry)) (now (rows .entry))
-        (now (excitation .entry)) (now (decoded .entry)))
-        ⌝ }
-    ensures { λ _.
-        ⌜
-        calls.lent (now (index .exit)) (now (marks .exit)) (now (sizes .exit)) (now (rows .exit))
+        (now (excitation .entry)) (now (decoded .entry)))) ×
+        (calls.lent (now (index .exit)) (now (marks .exit)) (now (sizes .exit)) (now (rows .exit))
         (now (excitation .exit)) (now (decoded .exit)) ≡
         calls.buffersAfter (now (voice .entry)) (now (sheet .entry)) settings
         (calls.lent (now (index .entry)) (now (marks .entry)) (now (sizes .entry)) (now (rows .entry))
-        (now (excitation .entry)) (now (decoded .entry)))
+        (now (excitation .entry)) (now (decoded .entry)))) ×
+        (calls.calledNumber (r .answer) ≡ answerOf
+        (calls.callRefusal (now (voice .entry)) (now (sheet .entry)) settings
+        (calls.lent (now (index .entry)) (now (marks .entry)) (now (sizes .entry)) (now (rows .entry))
+        (now (excitation .entry)) (now (decoded .entry)))))
         ⌝ }
     ensures { λ r.
         ⌜

@@ -52,9 +52,9 @@ same-length-6 c = search needs
 
 returns-2 : tie.Need-returns-2
 returns-2 c =
-    let a = c .before .before .before .before .before .before .before .before .before .before .before .before .before .before .before .before .before .before .before .before .before .before .before .before .before .before .args in
+    let a = c .before .before .before .before .before .before .before .before .before .before .before .before .before .before .before .before .before .before .before .before .before .before .before .before .before .before .before .before .before .before .before .args in
     let b = lent (a .index .now) (a .marks .now) (a .sizes .now) (a .rows .now) (a .excitation .now) (a .decoded .now) in
-    let h = c .before .before .before .before .before .before .before .plan-checked .ensures in
+    let h = c .before .before .before .before .before .before .before .before .before .before .before .before .plan-checked .ensures in
     (h .0, h .1, ap (λ (p : Planned). calledNumber (p .answer)) (h .0) ∙ planned-number (a .voice .now) (a .sheet .now) (a .settings) b)
 
 pub plan-spec : {M : Type 1} → statement M
