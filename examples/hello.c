@@ -64,8 +64,8 @@ int main(int count, char **words)
                      summary, sizeof summary) != 0)
         return 1;
     samples = room(2 * lent[4].length);
-    while ((given = diphone_pull(state, sizeof state, lent[2].at, lent[2].length, lent[3].at, lent[3].length, lent[4].at,
-                                 lent[4].length, samples.at, samples.length)) >= 0)
+    while ((given = diphone_pull(state, sizeof state, lent[2].at, lent[2].length, lent[3].at, lent[3].length,
+                                 lent[4].at, lent[4].length, samples.at, samples.length)) >= 0)
         for (int64_t i = 0; i < given; i += 1) {
             int word = samples.at[2 * i] | samples.at[2 * i + 1] << 8;
             printf("%s%d", separator, word < 32768 ? word : word - 65536);

@@ -24,19 +24,32 @@ static uint32_t find_peak(int *peak, struct speech *speech)
     return size == DIPHONE_DONE ? 0 : (uint32_t)-size;
 }
 
+static double factor_of(double decibels)
+{
+    return pow(10, decibels / 20);
+}
+
+/* The greatest gain by which a peak does not clip, in tenths of a decibel from 0 on. */
+static double greatest_gain(int peak)
+{
+    double tenths = floor(200 * log10((double)LARGEST / peak));
+
+    return tenths > 0 ? tenths / 10 : 0;
+}
+
 uint32_t find_factor(double *factor, struct speech *speech, double decibels)
 {
     int peak;
     uint32_t refusal;
 
-    *factor = pow(10, decibels / 20);
+    *factor = factor_of(decibels);
     if (decibels <= 0)
         return 0;
     refusal = find_peak(&peak, speech);
     if (refusal == 0 && peak * *factor > LARGEST) {
-        *factor = (double)LARGEST / peak;
-        fprintf(stderr, "player: note: the gain is %.1f decibels: %g would clip\n", 20 * log10(*factor),
-                decibels);
+        double gain = greatest_gain(peak);
+        *factor = factor_of(gain);
+        fprintf(stderr, "player: note: the gain is %.1f decibels: %g would clip\n", gain, decibels);
     }
     return refusal;
 }

@@ -106,7 +106,8 @@ static int write_speech(struct call *call)
 
 static int speak(struct call *call)
 {
-    uint32_t refusal = plan_speech(&call->speech, &call->voice.bytes, &call->sheet.bytes, call->options);
+    uint32_t refusal =
+        plan_speech(&call->speech, &call->voice.bytes, &call->sheet.bytes, call->options);
     int status;
 
     if (refusal != 0) {

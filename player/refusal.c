@@ -44,7 +44,8 @@ static void print_flaw(const struct bytes *sheet)
     if (sheet->length == 0)
         fputs("; it is empty", stderr);
     else if (looks_like_text(sheet))
-        fputs("; it looks like a text, of which `tools/sheet encode TEXT SHEET` makes a call sheet", stderr);
+        fputs("; it looks like a text, of which `tools/sheet encode TEXT SHEET` makes a call sheet",
+              stderr);
 }
 
 void print_refusal(uint32_t number, const struct input *voice, const struct input *sheet)

@@ -118,7 +118,7 @@ def header_of(section):
 
 
 def entries_of(voice, section):
-    """The entries that a section dip.index of a voice holds, one by one: name, start and two halves; 7 is the refusal."""
+    """The entries of a voice's section dip.index, one by one: name, start and two halves; 7 is the refusal."""
     cursor = Cursor(voice, 7, "the index", section.place, section.place + len(section.data))
     for _ in range(cursor.u32()):
         name = cursor.name()
@@ -141,7 +141,7 @@ def index_bytes(entries):
 
 
 def voice_file(header, rows, residuals, entries, backend=None, sizes=None):
-    """A voice file. The frames are as many as the rows (lists of q) and the residuals; sizes are sts.ressize's bytes."""
+    """A voice file of as many frames as there are rows (lists of q) and residuals; sizes are sts.ressize's bytes."""
     offsets = [0]
     for residual in residuals:
         offsets.append(offsets[-1] + len(residual))

@@ -30,7 +30,10 @@ make -s -C "$repo" install-shared PREFIX="$work/usr" >/dev/null
 LD_LIBRARY_PATH=$work/usr/lib
 export LD_LIBRARY_PATH
 build shared cc -std=c11 -Wall -Wextra -Werror -pedantic -x c
-readelf -d "$work/shared" 2>/dev/null | grep -q 'libdiphone_c.so.1' || { echo "install: the shared library is not used"; exit 1; }
+if ! readelf -d "$work/shared" 2>/dev/null | grep -q 'libdiphone_c.so.1'; then
+    echo "install: the shared library is not used"
+    exit 1
+fi
 "$work/usr/bin/diphone-player" --version >/dev/null
 make -s -C "$repo" uninstall PREFIX="$work/usr"
 left=$(find "$work/usr" -type f -o -type l)

@@ -132,9 +132,9 @@ class Output(InFolder):
         self.assertLess(peak * 10 ** (6 / 20), 32767)
         self.assertTrue(all(abs(a / factor - b) <= 0.501 for a, b in zip(plain, louder)))
         done = run(*YARD, "--raw", "--gain=40")
-        self.assertIn("player: note: the gain is ", done[2])
-        self.assertEqual(max(map(abs, samples_of(done))), 32767)
-        self.assertTrue(all(abs(a * 32767 / peak - b) <= 0.501 for a, b in zip(plain, samples_of(done))))
+        gain = float(re.fullmatch(r"player: note: the gain is (.*) decibels: 40 would clip\n", done[2])[1])
+        self.assertEqual(samples_of(done), samples_of(run(*YARD, "--raw", "--gain", gain)))
+        self.assertTrue(32767 * 10 ** (-0.1 / 20) <= max(map(abs, samples_of(done))) <= 32767)
 
     def test_streams(self):
         """A hyphen is standard input, for either file."""
@@ -262,8 +262,8 @@ class Refusals(InFolder):
         sheets = [data for _, _, data in cases.unfit_sheets()]
         for _ in range(60):
             place = draw.randrange(len(whole_sheet))
-            cut = draw.randrange(place, len(whole_sheet) + 1)
-            sheets.append((whole_sheet[:place] + bytes([draw.choice([0, 3, 31, 127, 128, 255])]) + whole_sheet[place + 1 :])[:cut])
+            changed = cases.patched(place, bytes([draw.choice([0, 3, 31, 127, 128, 255])]))(whole_sheet)
+            sheets.append(changed[: draw.randrange(place, len(whole_sheet) + 1)])
         seen = 0
         for data in sheets:
             path = self.file("unfit.sht", data)
@@ -298,7 +298,11 @@ class Refusals(InFolder):
 
     def test_unfinished(self):
         """A WAV that does not fit is removed."""
-        limit = lambda: (signal.signal(signal.SIGXFSZ, signal.SIG_IGN), resource.setrlimit(resource.RLIMIT_FSIZE, (4096, 4096)))
+
+        def limit():
+            signal.signal(signal.SIGXFSZ, signal.SIG_IGN)
+            resource.setrlimit(resource.RLIMIT_FSIZE, (4096, 4096))
+
         path = self.folder / "cut.wav"
         status, _, message = run(*YARD, "--wav", path, preexec_fn=limit)
         self.assertEqual(status, 1)
@@ -387,8 +391,8 @@ class Memory(InFolder):
         for words in calls:
             self.assertEqual(run(*words, before=VALGRIND), run(*words), words)
         gap = self.file("gap.sht", sheet([Segment(b"n", NONE, 2), Segment(b"z"), Segment(b"q" * 32)]))
-        calls = [(YARD[0], unfit), (unfit, unfit), (YARD[0], "/nowhere/at-all"), ("--help",), (YARD[0], gap, "--join=simple")]
-        for words in [*calls, (*YARD, "--raw", "--gain", "30")]:
+        calls = [(YARD[0], unfit), (unfit, unfit), (YARD[0], "/nowhere/at-all"), ("--help",)]
+        for words in [*calls, (YARD[0], gap, "--join=simple"), (*YARD, "--raw", "--gain", "30")]:
             self.assertEqual(run(*words, before=VALGRIND), run(*words), words)
 
 

@@ -19,7 +19,8 @@ def has_flite():
         return False
     look = ["cc", "-E", "-include", "flite/flite.h", "-x", "c", "/dev/null"]
     done = subprocess.run(look, stdout=subprocess.DEVNULL, stderr=subprocess.DEVNULL, check=False)
-    return done.returncode == 0 and subprocess.run([REPO / "tools/archive", "--check"], check=False).returncode == 0
+    made = subprocess.run([REPO / "tools/archive", "--check"], stderr=subprocess.DEVNULL, check=False)
+    return done.returncode == 0 and made.returncode == 0
 
 
 def command(words, given=b"", **more):
@@ -105,6 +106,12 @@ class Say(unittest.TestCase):
         self.assertNotEqual(self.raw("Nine bins.", "--join=simple"), plain)
         self.assertNotEqual(self.raw("Nine bins.", "--gain=-6"), plain)
 
+    def test_gain(self):
+        """One gain for all sentences, that of the loudest."""
+        status, data, message = say("--raw", "--gain", "30", "Nine. Turn left.")
+        gain = re.fullmatch(r"say: the gain is (.*) decibels: 30 would clip\n", message)[1]
+        self.assertEqual((status, data), say("--raw", "--gain", gain, "Nine. Turn left.")[:2])
+
     def test_wav(self):
         with tempfile.TemporaryDirectory() as folder:
             path = Path(folder) / "a b.wav"
@@ -163,8 +170,8 @@ class Archive(unittest.TestCase):
         self.assertEqual(self.make("--check")[0], 1)
         status, text, message = self.make()
         self.assertEqual((status, text, self.calls()), (0, b"", ["check diphone", "staticlib diphone_c"]))
-        lines = ["1 of 3 base: 4 s", "2 of 3 diphone: proved before", "3 of 3 diphone_c: proved, and made into the archive"]
-        self.assertEqual(message.splitlines()[1:], lines)
+        lines = ["base: 4 s", "diphone: proved before", "diphone_c: proved, and made into the archive"]
+        self.assertEqual(message.splitlines()[1:], [f"{number} of 3 {line}" for number, line in enumerate(lines, 1)])
         self.assertEqual((self.make("--check")[0], self.make(), self.calls()), (0, (0, b"", ""), []))
 
     def test_never_older(self):
@@ -184,7 +191,7 @@ class Archive(unittest.TestCase):
         if not any(os.access(f"{folder}/rt", os.X_OK) for folder in ("/usr/bin", "/bin")):
             status, text, message = self.make(rt=False)
             self.assertEqual((status, text), (1, b""))
-            self.assertTrue(re.search(r"there is no target/staticlib/libdiphone_c.a, and .* rt, .* not on this", message))
+            self.assertTrue(re.search(r"there is no target/\S*libdiphone_c.a, and .* rt, .* not on this", message))
         (self.root / "fail").touch()
         status, text, message = self.make()
         self.assertEqual((status, text), (1, b""))

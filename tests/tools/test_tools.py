@@ -98,7 +98,8 @@ class Formats(unittest.TestCase):
     """What is written, byte by byte, by hand; the reader is held to the writer by the round trips."""
 
     def test_groups(self):
-        for number, data in {0: b"\0", 127: b"\x7f", 128: b"\x80\1", 4096: b"\x80\x20", 2**35 - 1: b"\xff" * 4 + b"\x7f"}.items():
+        numbers = {0: b"\0", 127: b"\x7f", 128: b"\x80\1", 4096: b"\x80\x20", 2**35 - 1: b"\xff" * 4 + b"\x7f"}
+        for number, data in numbers.items():
             self.assertEqual(formats.groups(number), data)
 
     def test_sheet(self):
@@ -242,7 +243,8 @@ class Sheet(unittest.TestCase):
         self.assertEqual(status, 1)
         self.assertIn(f"sheet: {source}: refused 8 at byte 7: ", message)
         self.assertIn("it looks like a text, of which encode makes a sheet", message)
-        self.assertEqual(run_alone("sheet", "decode", "-", given=b"\2")[2], "sheet: standard input: refused 8 at byte 1: the sheet is cut short\n")
+        message = "sheet: standard input: refused 8 at byte 1: the sheet is cut short\n"
+        self.assertEqual(run_alone("sheet", "decode", "-", given=b"\2"), (1, b"", message))
 
 
 class VoiceInfo(unittest.TestCase):
@@ -311,8 +313,9 @@ def spoken(samples, rate=8000, size=80):
 
 def long_call(seconds):
     """A call of many short phones and targets."""
-    phones = [Segment(b"pau", formats.real(number * 0.05 + 0.05)) for number in range(seconds * 20)]
-    targets = [Target(formats.real(number * 0.05), formats.real(100 + number % 7 / 3)) for number in range(seconds * 20)]
+    numbers = range(seconds * 20)
+    phones = [Segment(b"pau", formats.real(number * 0.05 + 0.05)) for number in numbers]
+    targets = [Target(formats.real(number * 0.05), formats.real(100 + number % 7 / 3)) for number in numbers]
     return DRAW.Call((phones, targets), spoken([32767, -32768] * (4000 * seconds)))
 
 
@@ -340,7 +343,8 @@ class Draw(unittest.TestCase):
             tops = {}
             for part in picture:
                 points = [tuple(map(float, point.split(","))) for point in part.get("points", "").split()]
-                points += [(float(part.get(x)), float(part.get(y))) for x, y in (("x1", "y1"), ("x", "y")) if part.get(x)]
+                names = [names for names in (("x1", "y1"), ("x", "y")) if part.get(names[0])]
+                points += [(float(part.get(x)), float(part.get(y))) for x, y in names]
                 for x, y in points:
                     self.assertTrue(0 <= x <= right and 0 <= y <= bottom, part.attrib)
                 if part.get("class") == "body":
@@ -361,7 +365,8 @@ class Draw(unittest.TestCase):
 
     def test_axis(self):
         texts = [part.text for part in self.drawn(long_call(1)) if part.get("class") == "note"]
-        self.assertEqual([text for text in texts if text in ("0.2", "1600", "1.0", "8000")], ["0.2", "1600", "1.0", "8000"])
+        wanted = ["0.2", "1600", "1.0", "8000"]
+        self.assertEqual([text for text in texts if text in wanted], wanted)
         peaks = [part.text for part in self.drawn(long_call(1)) if part.get("class") == "note right"]
         self.assertEqual(peaks[:2], ["32768", "-32768"])
         self.assertEqual(DRAW.shown(1 / 3), "0.3")
@@ -448,9 +453,11 @@ class Pages(unittest.TestCase):
         """A line to each crate below that no other of those named needs; programs' libraries have no box."""
         tool = TOOLS["draw-crates"]
         found = tool.layers(CRATES)
-        self.assertEqual({heading: list(crates) for heading, crates in found.items()}, {"Leaves": ["base", "text"], "Above": ["voice", "index", "other"]})
+        names = {heading: list(crates) for heading, crates in found.items()}
+        self.assertEqual(names, {"Leaves": ["base", "text"], "Above": ["voice", "index", "other"]})
         needs = {name: named for crates in found.values() for name, named in crates.items()}
-        self.assertEqual(tool.reduced(needs), {"base": [], "text": ["base"], "voice": ["text"], "index": ["voice"], "other": ["base"]})
+        reduced = {"base": [], "text": ["base"], "voice": ["text"], "index": ["voice"], "other": ["base"]}
+        self.assertEqual(tool.reduced(needs), reduced)
         self.assertEqual(tool.columns(found["Above"]), [["voice", "other"], ["index"]])
         picture = ElementTree.fromstring(tool.drawn(CRATES))
         kinds = collections.Counter(part.get("class") for part in picture)

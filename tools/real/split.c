@@ -6,8 +6,9 @@
 #define MOST_TOKENS 100
 
 struct text open_text(const char *text) {
-    cst_tokenstream *stream = ts_open_string(text, cst_ts_default_whitespacesymbols, cst_ts_default_singlecharsymbols,
-                                             cst_ts_default_prepunctuationsymbols, cst_ts_default_postpunctuationsymbols);
+    cst_tokenstream *stream =
+        ts_open_string(text, cst_ts_default_whitespacesymbols, cst_ts_default_singlecharsymbols,
+                       cst_ts_default_prepunctuationsymbols, cst_ts_default_postpunctuationsymbols);
     if (stream == NULL)
         stop("no memory");
     return (struct text){stream, 0};
