@@ -39,13 +39,6 @@ pub fn plan(
         (calls.lent (now (index .entry)) (now (marks .entry)) (now (sizes .entry)) (now (rows .entry))
         (now (excitation .entry)) (now (decoded .entry)))))
         ⌝ }
-    ensures { λ r.
-        ⌜
-        calls.calledNumber (r .answer) ≡ answerOf
-        (calls.callRefusal (now (voice .entry)) (now (sheet .entry)) settings
-        (calls.lent (now (index .entry)) (now (marks .entry)) (now (sizes .entry)) (now (rows .entry))
-        (now (excitation .entry)) (now (decoded .entry))))
-        ⌝ }
 {
     match checking::check(voice, sheet, settings) {
         Checked::Refused(cause) => planning::refused(cause),
