@@ -1,12 +1,25 @@
 #include "options.h"
 
+#include "diphone.h"
+
 #include <stdlib.h>
 #include <string.h>
 
 #define MOST_GAIN 60
 
-static const char *const JOINS[] = {"none", "simple", "modified", NULL};
-static const char *const FILTERS[] = {"fixed", "float", NULL};
+/* A setting's name, and its number for the engine. */
+struct choice {
+    const char *name;
+    uint32_t number;
+};
+
+static const struct choice JOINS[] = {{"none", DIPHONE_JOIN_NONE},
+                                      {"simple", DIPHONE_JOIN_SIMPLE},
+                                      {"modified", DIPHONE_JOIN_MODIFIED},
+                                      {NULL, 0}};
+static const struct choice FILTERS[] = {{"fixed", DIPHONE_FILTER_FIXED},
+                                        {"float", DIPHONE_FILTER_FLOAT},
+                                        {NULL, 0}};
 
 void print_usage(FILE *stream)
 {
@@ -50,14 +63,14 @@ static int place_in(const char *const *list, const char *word)
 }
 
 /* A setting by its name. */
-static int read_setting(uint32_t *setting, const char *const *names, const char *name)
+static int read_setting(uint32_t *setting, const struct choice *choices, const char *name)
 {
-    int place = place_in(names, name);
-
-    if (place < 0)
-        return complain("no such setting", name);
-    *setting = (uint32_t)place;
-    return 0;
+    for (; choices->name != NULL; choices += 1)
+        if (strcmp(choices->name, name) == 0) {
+            *setting = choices->number;
+            return 0;
+        }
+    return complain("no such setting", name);
 }
 
 static int read_gain(double *gain, const char *word)
@@ -174,7 +187,7 @@ static int check_options(struct options *options)
 
 int read_options(struct options *options, int count, char **words)
 {
-    static const struct options DEFAULTS = {.join = 2, .output = OUTPUT_LIST, .task = TASK_SPEAK};
+    static const struct options DEFAULTS = {.join = DIPHONE_JOIN_MODIFIED, .filter = DIPHONE_FILTER_FIXED};
     int place = 1;
     int files = 0; /* whether all words from here on are files */
 

@@ -13,12 +13,12 @@ enum task { TASK_SPEAK, TASK_HELP, TASK_VERSION };
 struct options {
     const char *voice; /* a file, or - for standard input */
     const char *sheet;
-    uint32_t join;   /* 0 none, 1 simple, 2 modified */
-    uint32_t filter; /* 0 fixed, 1 float */
-    uint32_t fold;   /* 0 off, 1 on */
-    double gain;     /* in decibels */
+    uint32_t join;     /* as diphone.h numbers them */
+    uint32_t filter;
+    uint32_t fold;     /* 0 off, 1 on */
+    double gain;       /* in decibels */
     enum output output;
-    const char *wav; /* the file of OUTPUT_WAV, or - for standard output */
+    const char *wav;   /* the file of OUTPUT_WAV, or - for standard output */
     enum task task;
 };
 
