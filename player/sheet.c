@@ -43,7 +43,7 @@ static const uint8_t *take(struct reader *reader, size_t count)
 
 static int refuse_number(struct reader *reader, size_t start, const char *what, const char *problem)
 {
-    char reason[80];
+    char reason[128];
 
     snprintf(reason, sizeof reason, "%s %s", what, problem);
     return refuse(reader, DIPHONE_BAD_SHEET, start, reason);
@@ -58,7 +58,7 @@ static int read_number(struct reader *reader, uint64_t most, const char *what, u
 
     for (group = 0; group < MOST_GROUPS; group += 1) {
         const uint8_t *byte = take(reader, 1);
-        char problem[48];
+        char problem[64];
         if (byte == NULL)
             return -1;
         value += (uint64_t)(*byte % 128) << 7 * group;

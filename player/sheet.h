@@ -20,7 +20,7 @@ struct phones {
 struct flaw {
     uint32_t number;
     size_t place;
-    char reason[80];
+    char reason[128];
 };
 
 /* Reads a sheet. Answers 0 with the phones, which release_phones gives back; or -1 with the flaw, whose
