@@ -62,7 +62,7 @@ pub fn plan_in_c(
     let chosen = call::settings_of(settings);
     match checking::check(voice, sheet, chosen) {
         Checked::Refused(cause) => refusal::number(cause),
-        Checked::Passed(fit) => planned::plan_checked(
+        Checked::Passed(fit) => planned::plan_handed(
             voice,
             sheet,
             chosen,

@@ -58,7 +58,7 @@ fn write_summary(m: Summary, report: &mut [u8])
 
 // 13 for the buffers, the state and the summary of a call that its check passed; they are filled
 // otherwise.
-pub(super) fn plan_checked(
+pub(super) fn plan_handed(
     voice: &[u8],
     sheet: &[u8],
     settings: Settings,

@@ -6,7 +6,7 @@ use call::Answer;
 use refusal::Refusal;
 
 // Minus the number of a refusal.
-fn refused(cause: Refusal) -> i64
+fn minus_number(cause: Refusal) -> i64
     ensures { λ r. ⌜ r ≡ pulls.refusedNumber cause ⌝ }
 {
     0 - (refusal::number(cause) as i64)
@@ -40,10 +40,10 @@ pub fn pull_in_c(
         ⌝ }
 {
     if state.len() < 168 {
-        return refused(Refusal::BadState);
+        return minus_number(Refusal::BadState);
     }
     if base::bytes::read_u32(state, 0) > 1 {
-        return refused(Refusal::BadState);
+        return minus_number(Refusal::BadState);
     }
     let pulled = diphone::pull(c_state::load(state), sizes, rows, excitation, samples);
     let answer = pulled.answer;
@@ -54,6 +54,6 @@ pub fn pull_in_c(
             n as i64
         }
         Answer::Done => -1,
-        Answer::Refused(cause) => refused(cause),
+        Answer::Refused(cause) => minus_number(cause),
     }
 }

@@ -21,8 +21,8 @@ number-requires c κs = search needs
 enum-known-fit : tie.Need-enum-known-fit
 enum-known-fit c = search needs
 
-plan-checked-requires : tie.Need-plan-checked-requires
-plan-checked-requires c κs =
+plan-handed-requires : tie.Need-plan-handed-requires
+plan-handed-requires c κs =
     let a = c .before .before .before .before .before .before .before .before .before .before .before .before .before .before .before .before .before .before .before .before .before .before .before .args in
     checks-passed (a .voice .now) (a .sheet .now) refl (c .before .before .before .before .before .before .before .before .before .before .before .check .ensures) (c .before .before .before .before .before .before .before .before .before .fit .given .1)
 
@@ -60,7 +60,7 @@ same-length-8 c = search needs
 returns-2 : tie.Need-returns-2
 returns-2 c =
     let a = c .before .before .before .before .before .before .before .before .before .before .before .before .before .before .before .before .before .before .before .before .before .before .before .before .before .before .before .before .before .before .before .before .before .before .before .before .before .before .before .before .args in
-    by-settings (a .voice .now) (a .sheet .now) (handed (a .index .now) (a .marks .now) (a .sizes .now) (a .rows .now) (a .excitation .now) (a .decoded .now) (a .state .now) (a .summary .now)) (c .before .before .before .before .before .before .before .before .before .before .before .before .before .before .before .before .before .before .before .before .before .before .before .before .before .before .before .before .before .settings-of .ensures) (c .before .before .before .before .before .before .before .before .before .before .before .before .before .before .before .before .plan-checked .ensures)
+    by-settings (a .voice .now) (a .sheet .now) (handed (a .index .now) (a .marks .now) (a .sizes .now) (a .rows .now) (a .excitation .now) (a .decoded .now) (a .state .now) (a .summary .now)) (c .before .before .before .before .before .before .before .before .before .before .before .before .before .before .before .before .before .before .before .before .before .before .before .before .before .before .before .before .before .settings-of .ensures) (c .before .before .before .before .before .before .before .before .before .before .before .before .before .before .before .before .plan-handed .ensures)
 
 pub plan-in-c-spec : {M : Type 1} → statement M
 plan-in-c-spec =
@@ -71,7 +71,7 @@ plan-in-c-spec =
     enum-known-cause
     number-requires
     enum-known-fit
-    plan-checked-requires
+    plan-handed-requires
     returns
     same-length
     same-length-2

@@ -63,20 +63,20 @@ count-low c =
     let m : length (b .args .excitation .now) < 2 ^ 63 = rw mul-one at (b .good .1 .1 .1 .0 .1) in
     lt-of-le-of-lt (lent-excitation b l) m
 
-refused-requires : tie.Need-refused-requires
-refused-requires c κs = search needs
+minus-number-requires : tie.Need-minus-number-requires
+minus-number-requires c κs = search needs
 
 returns : tie.Need-returns
 returns c =
     let b = start (c .before .before) in
     no-state-ends (b .args .state .now) (lentIn b) (b .args .samples .now) _ (cut-short (b .args .state .now) (c .before .if1 .taken))
-    (toZ-ofZ (record { sfits = c .refused .ok }) ∙ c .refused .ensures)
+    (toZ-ofZ (record { sfits = c .minus-number .ok }) ∙ c .minus-number .ensures)
 
 read-u32-requires : tie.Need-read-u32-requires
 read-u32-requires c κs = search needs
 
-refused-requires-2 : tie.Need-refused-requires-2
-refused-requires-2 c κs = search needs
+minus-number-requires-2 : tie.Need-minus-number-requires-2
+minus-number-requires-2 c κs = search needs
 
 same-length : tie.Need-same-length
 same-length c = search needs
@@ -87,7 +87,7 @@ returns-2 c =
     let e = t .before .before .before in
     let b = start (e .before) in
     no-state-ends (b .args .state .now) (lentIn b) (b .args .samples .now) _ (other-filter (b .args .state .now) (e .if1 .left) (rw (t .before .read-u32 .ensures) at (t .if2 .taken)))
-    (toZ-ofZ (record { sfits = c .refused2 .ok }) ∙ c .refused2 .ensures)
+    (toZ-ofZ (record { sfits = c .minus-number2 .ok }) ∙ c .minus-number2 .ensures)
 
 load-requires : tie.Need-load-requires
 load-requires c κs = search needs
@@ -110,8 +110,8 @@ enum-told c = search needs
 enum-known-answer-2 : tie.Need-enum-known-answer-2
 enum-known-answer-2 c = search needs
 
-refused-requires-3 : tie.Need-refused-requires-3
-refused-requires-3 c κs = search needs
+minus-number-requires-3 : tie.Need-minus-number-requires-3
+minus-number-requires-3 c κs = search needs
 
 same-length-2 : tie.Need-same-length-2
 same-length-2 c = search needs
@@ -152,16 +152,16 @@ returns-5 c =
     let p = pulledAt (k .before .before) in
     let b = started p in
     pulled-ends (b .args .state .now) (lentIn b) (b .args .samples .now) _ (p .pull .result) (Refused _) _ _ (tested p) (came p) (k .answer2 .given .1)
-    (toZ-ofZ (record { sfits = c .refused3 .ok }) ∙ c .refused3 .ensures) refl (wrote p)
+    (toZ-ofZ (record { sfits = c .minus-number3 .ok }) ∙ c .minus-number3 .ensures) refl (wrote p)
 
 pub pull-in-c-spec : {M : Type 1} → statement M
 pull-in-c-spec =
     tie.close
     (tie.spec
-    refused-requires
+    minus-number-requires
     returns
     read-u32-requires
-    refused-requires-2
+    minus-number-requires-2
     same-length
     returns-2
     load-requires
@@ -171,7 +171,7 @@ pull-in-c-spec =
     cast-result
     enum-told
     enum-known-answer-2
-    refused-requires-3
+    minus-number-requires-3
     same-length-2
     same-length-3
     returns-3

@@ -1,7 +1,7 @@
 use Rattle.c_pull.proofs.PullLaws.{refused-fits, refused-is}
 use borrow.Author.Needs.{needs}
-use Rattle.c_pull.proofs.refused.Statement.{statement}
-use Rattle.c_pull.proofs.refused.Tie as tie
+use Rattle.c_pull.proofs.minus_number.Statement.{statement}
+use Rattle.c_pull.proofs.minus_number.Tie as tie
 
 number-requires : tie.Need-number-requires
 number-requires c κs = search needs
@@ -15,5 +15,5 @@ sub-result c = refused-fits (c .before .args .cause) (c .number .result) (c .num
 returns : tie.Need-returns
 returns c = refused-is (c .before .args .cause) (c .number .result) (c .number .ensures)
 
-pub refused-spec : {M : Type 1} → statement M
-refused-spec = tie.close (tie.spec number-requires cast-result sub-result returns)
+pub minus-number-spec : {M : Type 1} → statement M
+minus-number-spec = tie.close (tie.spec number-requires cast-result sub-result returns)

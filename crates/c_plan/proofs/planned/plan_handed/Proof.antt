@@ -2,8 +2,8 @@ use Rattle.refusal.specs.declared.Refusal.the-variants.{ShortBuffer}
 use Rattle.c_plan.specs.Plan.{handed}
 use Rattle.c_plan.proofs.PlannedLaws.{plan-refused, state-short, summary-short, call-refused, call-spoken}
 use borrow.Author.Needs.{needs}
-use Rattle.c_plan.proofs.planned.plan_checked.Statement.{statement}
-use Rattle.c_plan.proofs.planned.plan_checked.Tie as tie
+use Rattle.c_plan.proofs.planned.plan_handed.Statement.{statement}
+use Rattle.c_plan.proofs.planned.plan_handed.Tie as tie
 
 number-requires : tie.Need-number-requires
 number-requires c κs = search needs
@@ -101,8 +101,8 @@ returns-4 c =
     let p = c .before .before .before .before .before .before .before .before .before .before .before .before .before .before .before .before .before .before .before .before .before .before .before .before .plan-checked in
     call-spoken (a .voice .now) (a .sheet .now) (a .settings) h (c .before .before .before .before .before .before .before .before .before .before .before .before .before .before .before .before .before .before .before .before .before .before .before .before .before .before .before .before .before .before .before .before .if1 .left) (c .before .before .before .before .before .before .before .before .before .before .before .before .before .before .before .before .before .before .before .before .before .before .before .before .before .before .before .before .before .before .before .if2 .left) _ _ _ _ _ (p .ensures .0) (p .ensures .1) (c .before .before .before .before .before .before .before .before .before .answer2 .given .1) (c .before .before .before .before .before .before .store .ensures) (c .before .before .write-summary .ensures)
 
-pub plan-checked-spec : {M : Type 1} → statement M
-plan-checked-spec =
+pub plan-handed-spec : {M : Type 1} → statement M
+plan-handed-spec =
     tie.close
     (tie.spec
     number-requires
