@@ -6,6 +6,7 @@ use Rattle.lpc.specs.declared.FilterState.{FilterState}
 use Rattle.call.specs.Buffers.{summaryOf, plannedOf, buffersAfter}
 use Rattle.call.specs.Pull.{pullOf}
 use Rattle.call.specs.Machine.{pulls}
+use Rattle.call.proofs.NumberLaws.{planned-number}
 use Rattle.call.specs.SpokenCall.{SpokenCall, LentBytes, voiceIn, sheetIn, bytesAfter, readAs, stateAfter, pullsAfter}
 use Rattle.law.specs.Made.{made, PullsMade, none, more, MadeAfter}
 use Rattle.law.proofs.Lends.{lend, lendAll, lifetimes}
@@ -26,7 +27,8 @@ made-exists c ds =
       returned = plannedOf (c .voiceFile) (c .sheetFile) (c .settings) b;
       left = buffersAfter (c .voiceFile) (c .sheetFile) (c .settings) b;
       summary = summaryOf (voiceIn c) (sheetIn c) (c .settings);
-      call = made (lifetimes 8) (lend (c .voiceFile)) (lend (c .sheetFile)) (lendAll b) (c .settings) _ _ (refl, refl);
+      call = made (lifetimes 8) (lend (c .voiceFile)) (lend (c .sheetFile)) (lendAll b) (c .settings) _ _
+          (refl, refl, planned-number (c .voiceFile) (c .sheetFile) (c .settings) b);
       spoken = (let e = c .notRefused in rw e);
       pulls = pulls-exist (bytesAfter c) (stateAfter c) ds;
     }
