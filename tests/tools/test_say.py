@@ -1,4 +1,4 @@
-"""Tests of tools/archive, and of tools/real/say where flite's library is at hand."""
+"""Tests of tools/archive, of what tools/real/against-flite installs, and of tools/real/say where flite is at hand."""
 import os
 import re
 import shutil
@@ -122,6 +122,24 @@ class Say(unittest.TestCase):
             with wave.open(str(path)) as file:
                 self.assertEqual((file.getframerate(), file.getnchannels(), file.getsampwidth()), (16000, 1, 2))
                 self.assertEqual(file.readframes(10**7), say("Nine bins.", "--raw")[1])
+
+
+class Install(unittest.TestCase):
+    def test_flite(self):
+        """flite1-dev is installed where CI=true and the user is root, and nowhere else. Stand-ins for id and apt-get."""
+        with tempfile.TemporaryDirectory() as folder:
+            calls = Path(folder) / "calls"
+            for name, text in (("id", 'echo "$USER_NUMBER"'), ("apt-get", f'echo "$*" >>"{calls}"')):
+                path = Path(folder) / name
+                path.write_text(f"#!/bin/sh\n{text}\n")
+                path.chmod(0o755)
+            for ci, user in (("", "0"), ("true", "1000"), ("true", "0")):
+                self.assertFalse(calls.exists())
+                words = {"PATH": f"{folder}:/usr/bin:/bin", "CC": "false", "CI": ci, "USER_NUMBER": user}
+                status, text, _ = command([REPO / "tools/real/against-flite"], env=words)
+                self.assertEqual(status, 77)
+                self.assertIn(b"flite's library is not here", text)
+            self.assertEqual(calls.read_text(), "-q update\n-q install -y flite1-dev\n")
 
 
 # A stand-in for rt: notes how it was called, and makes what it should.
