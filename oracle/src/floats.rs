@@ -163,7 +163,7 @@ fn sweep(words: &Words, rust: impl Fn(u32) -> u64, archive: impl Fn(u32) -> u64)
 type Sweep = fn(&Words) -> Tally;
 
 /// The functions of one 32-bit word, or of the f32 with that word as its bits.
-const OF_WORD: [(&str, Sweep); 8] = [
+const OF_WORD: [(&str, Sweep); 7] = [
     ("f32_to_i16", |words| {
         sweep(
             words,
