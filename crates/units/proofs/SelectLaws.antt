@@ -149,7 +149,9 @@ module _ (v : Voice) where
   module _ (ss : List SegmentRead) (left right : SegmentRead) where
     tried : (t : Bool) → inCluster ss left ≡ t → entryOf v ss left right ≡ orElse (named (pick t (clusterName (left .name) (right .name)) (plainName (left .name) (right .name)))) (plainEntry v (left .name) (right .name))
     unfolding entryOf firstTried
-    tried t e = rw e (else-next _ _ _)
+    tried t e =
+        rw e
+        (else-next (named (pick t (clusterName (left .name) (right .name)) (plainName (left .name) (right .name)))) (named (plainName (left .name) (right .name))) (firstOf (sorted v)))
 
     pub tried-plain : inCluster ss left ≡ false → entryOf v ss left right ≡ plainEntry v (left .name) (right .name)
     tried-plain e = tried false e ∙ by (named (plainName (left .name) (right .name)))
@@ -176,7 +178,9 @@ module _ (v : Voice) (P : Entry → Type 0) (found : (n : List ℕ) (e : Entry) 
 
   selected-is : (ss : List SegmentRead) (left right : SegmentRead) → P (entryOf v ss left right)
   unfolding entryOf
-  selected-is ss left right = subst P (sym (else-next v _ _ _)) (either (firstTried ss left right) _ (either (plainName (left .name) (right .name)) _ first))
+  selected-is ss left right =
+      subst P (sym (else-next v (lookup (firstTried ss left right) (v .entries)) (lookup (plainName (left .name) (right .name)) (v .entries)) (firstOf (sorted v))))
+      (either (firstTried ss left right) _ (either (plainName (left .name) (right .name)) _ first))
 
 -- it ends within the frames
 module _ (file : List ℕ) (d : DiphoneVoice) (o : IsOpen file d) where
