@@ -17,7 +17,7 @@ use Rattle.index.specs.Index.{Indexable, Filled, ascending, indexOf}
 use Rattle.index.specs.Shuffle.{Shuffled, nameIn}
 use Rattle.index.proofs.OrderLaws.{not-both}
 use Rattle.index.proofs.WalkLaws.{placed}
-use Rattle.index.proofs.SearchLaws.{other, distinct-parts}
+use Rattle.index.proofs.AscendingLaws.{other, distinct-parts}
 use Rattle.index.proofs.FilledLaws.{filled-by}
 use Rattle.index.proofs.ReorderLaws.{perm-sort}
 use Rattle.index.proofs.ShuffleLaws.{shuffled-count, shuffled-name, shuffled-read, shuffled-able, shuffled-self, shuffled-told, shuffled-distinct, filled-distinct}

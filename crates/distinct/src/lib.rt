@@ -27,7 +27,7 @@ fn stands_in(entries: &[u8], count: usize, index: &[u8], at: usize) -> bool
         (voices.lookup (entryAt (now (entries .entry)) at .name) (entriesFrom count (now (entries .entry)) 0 .list))
         ⌝ }
 {
-    match index::find(entries, count, 0, index, index::name_at(entries, at)) {
+    match search::find(entries, count, 0, index, index::name_at(entries, at)) {
         FoundEntry::Found(_) => true,
         FoundEntry::Missing => false,
     }

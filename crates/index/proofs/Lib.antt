@@ -6,8 +6,7 @@ pub mod BufferLaws
 pub mod SortLaws
 pub mod InsertLaws
 pub mod StoreLaws
-pub mod FirstLaws
-pub mod SearchLaws
+pub mod AscendingLaws
 pub mod ReorderLaws
 pub mod ShuffleLaws
 pub mod FilledLaws

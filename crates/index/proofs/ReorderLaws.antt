@@ -13,7 +13,7 @@ use Rattle.index.specs.Index.{beforeFirst, ascending}
 use Rattle.index.proofs.OrderLaws.{not-both, before-self, before-trans, ascending-first, ascending-rest, ascending-distinct}
 use Rattle.index.proofs.SortLaws.{insert-none, insert-here, insert-later}
 use Rattle.index.proofs.TestLaws.{lookup-next}
-use Rattle.index.proofs.SearchLaws.{other, differ, after, distinct-parts, sort-ascending}
+use Rattle.index.proofs.AscendingLaws.{other, differ, after, distinct-parts, sort-ascending}
 
 -- ---- two insertions, in either order
 

@@ -1,16 +1,14 @@
-// The index of a voice: its entries checked, sorted in a lent buffer, and searched. `entries` has
+// The index of a voice: its entries checked, and sorted in a lent buffer. `entries` has
 // the bytes after the count. A `requires` here is what the caller has tested.
 ghost use mathlib.Core.Path.{_≡_};
 ghost use mathlib.Core.Bool.{true};
 ghost use Prim.Native.Nat.{_+_, _*_, _^_, _<_, _≤_};
 ghost use lib.ListN.{length, getD, take, drop};
 ghost use Rattle.base.specs.Buffers.{over};
-ghost use Rattle.base.specs.Choice.{pick};
 ghost use Rattle.text.specs.Names.{before};
 ghost use Rattle.voice.specs.Voice.{entryAt, nextEntry, wholeEntry, entriesFrom, sort};
-ghost use Rattle.voice.specs.Voice as voices;
-ghost use Rattle.voice.specs.Opening.{withinFrames, distinct};
-ghost use Rattle.index.specs.Index.{Small, Indexable, Filled, periodsOf, foundOf, firstOf};
+ghost use Rattle.voice.specs.Opening.{withinFrames};
+ghost use Rattle.index.specs.Index.{Small, Indexable, periodsOf};
 ghost use Rattle.index.specs.Index.{ascending, indexOf, sortedFrom};
 ghost use Rattle.index.specs.Shuffle.{Shuffled, nameIn};
 use text::Order;
@@ -123,7 +121,7 @@ pub fn ends_within(entries: &[u8], count: usize, frames: usize) -> bool
 }
 
 // Whether the name of the entry at place a stands before that at place b.
-fn stands_before(entries: &[u8], a: usize, b: usize) -> bool
+pub fn stands_before(entries: &[u8], a: usize, b: usize) -> bool
     requires { ⌜
         (nextEntry (now entries) a ≤ length (now entries)) ×
         (nextEntry (now entries) b ≤ length (now entries))
@@ -157,27 +155,6 @@ pub fn is_ascending(entries: &[u8], count: usize) -> bool
         }
     }
     true
-}
-
-// What the `count` entries from a place on have under a name.
-fn lookup_from(entries: &[u8], from: usize, count: usize, name: &[u8]) -> FoundEntry
-    requires { ⌜ entriesFrom count (now entries) from .whole ≡ true ⌝ }
-    ensures { λ r.
-        ⌜
-        r ≡ foundOf
-        (voices.lookup (now (name .entry)) (entriesFrom count (now (entries .entry)) from .list))
-        ⌝ }
-{
-    let mut at = from;
-    let mut left = count;
-    while 0 < left {
-        if text::same(name_at(entries, at), name) {
-            return FoundEntry::Found(periods_at(entries, at));
-        }
-        at = next_entry(entries, at);
-        left -= 1;
-    }
-    FoundEntry::Missing
 }
 
 // Stores where each entry begins in the file at the front of the index, in file order.
@@ -432,100 +409,4 @@ pub fn fill_index(entries: &[u8], count: usize, base: usize, index: &mut [u8])
         return;
     }
     insert_places(entries, count, base, index);
-}
-
-// What the index has under a name, without the sorted index.
-pub fn lookup(entries: &[u8], count: usize, name: &[u8]) -> FoundEntry
-    requires { ⌜ entriesFrom count (now entries) 0 .whole ≡ true ⌝ }
-    ensures { λ r.
-        ⌜
-        r ≡ foundOf (voices.lookup (now (name .entry)) (entriesFrom count (now (entries .entry)) 0 .list))
-        ⌝ }
-{
-    lookup_from(entries, 0, count, name)
-}
-
-// The place of that of two entries which stands first: b's, where the names are the same.
-fn earlier(entries: &[u8], a: usize, b: usize) -> usize
-    requires { ⌜
-        (nextEntry (now entries) a ≤ length (now entries)) ×
-        (nextEntry (now entries) b ≤ length (now entries))
-        ⌝ }
-    ensures { λ r.
-        ⌜
-        r ≡ pick (before (entryAt (now (entries .entry)) a .name) (entryAt (now (entries .entry)) b .name)) a b
-        ⌝ }
-{
-    if stands_before(entries, a, b) {
-        return a;
-    }
-    b
-}
-
-// The first entry in name order, without the sorted index.
-pub fn smallest(entries: &[u8], count: usize) -> EntryPeriods
-    requires { ⌜ (entriesFrom count (now entries) 0 .whole ≡ true) × (1 ≤ count) ⌝ }
-    ensures { λ r.
-        ⌜
-        (r ≡ periodsOf (firstOf (sort (entriesFrom count (now (entries .entry)) 0 .list)))) × Small r
-        ⌝ }
-{
-    let mut best = 0;
-    let mut at = next_entry(entries, 0);
-    let mut left = count - 1;
-    while 0 < left {
-        best = earlier(entries, best, at);
-        at = next_entry(entries, at);
-        left -= 1;
-    }
-    periods_at(entries, best)
-}
-
-// Where entry i in name order begins among the entries' bytes, from the filled index.
-fn sorted_place(entries: &[u8], count: usize, base: usize, index: &[u8], i: usize) -> usize
-    requires { ⌜ Filled (now entries) count base (now index) × (i < count) ⌝ }
-    ensures { λ r.
-        ⌜
-        (entryAt (now (entries .entry)) r ≡
-        firstOf (drop i (sort (entriesFrom count (now (entries .entry)) 0 .list)))) ×
-        (nextEntry (now (entries .entry)) r ≤ length (now (entries .entry)))
-        ⌝ }
-{
-    base::bytes::u64_at(index, i) as usize - base
-}
-
-// The first entry in name order, from the filled index.
-pub fn first_sorted(entries: &[u8], count: usize, base: usize, index: &[u8]) -> EntryPeriods
-    requires { ⌜ Filled (now entries) count base (now index) × (1 ≤ count) ⌝ }
-    ensures { λ r.
-        ⌜
-        (r ≡ periodsOf (firstOf (sort (entriesFrom count (now (entries .entry)) 0 .list)))) × Small r
-        ⌝ }
-{
-    periods_at(entries, sorted_place(entries, count, base, index, 0))
-}
-
-// What the index has under a name, by a search that halves the filled index.
-pub fn find(entries: &[u8], count: usize, base: usize, index: &[u8], name: &[u8]) -> FoundEntry
-    requires { ⌜
-        Filled (now entries) count base (now index) ×
-        (distinct (entriesFrom count (now entries) 0 .list) ≡ true)
-        ⌝ }
-    ensures { λ r.
-        ⌜
-        r ≡ foundOf (voices.lookup (now (name .entry)) (entriesFrom count (now (entries .entry)) 0 .list))
-        ⌝ }
-{
-    let mut lo = 0;
-    let mut hi = count;
-    while lo < hi {
-        let mid = lo + (hi - lo) / 2;
-        let at = sorted_place(entries, count, base, index, mid);
-        match text::compare(name_at(entries, at), name) {
-            Order::Before => lo = mid + 1,
-            Order::Same => return FoundEntry::Found(periods_at(entries, at)),
-            Order::After => hi = mid,
-        }
-    }
-    FoundEntry::Missing
 }

@@ -69,9 +69,9 @@ fn find_name(file: &[u8], index: &[u8], by: Selection, name: &[u8]) -> FoundEntr
 {
     let entries = voice::sections::bytes_at(file, by.voice.entries);
     if by.sorted {
-        return index::find(entries, by.voice.count, by.voice.entries.at, index, name);
+        return search::find(entries, by.voice.count, by.voice.entries.at, index, name);
     }
-    index::lookup(entries, by.voice.count, name)
+    search::lookup(entries, by.voice.count, name)
 }
 
 // The sorted first entry.
@@ -81,9 +81,9 @@ fn first_entry(file: &[u8], index: &[u8], by: Selection) -> EntryPeriods
 {
     let entries = voice::sections::bytes_at(file, by.voice.entries);
     if by.sorted {
-        return index::first_sorted(entries, by.voice.count, by.voice.entries.at, index);
+        return search::first_sorted(entries, by.voice.count, by.voice.entries.at, index);
     }
-    index::smallest(entries, by.voice.count)
+    search::smallest(entries, by.voice.count)
 }
 
 // What the voice has under the name of a pair, which is folded where fold is on.

@@ -111,11 +111,11 @@ fn calls(rng: &mut Rng) -> Vec<(&'static str, VoiceSpec, Sheet)> {
     let next = |i: usize| if i + 1 < MAX_COUNT { i + 2 } else { 0 };
     let consonants = (0..MAX_COUNT).map(|_| ("k".to_string(), MAX_COUNT)).collect();
     vec![
-        ("wide", voice(wide), random(rng, next)),
         ("wide-unsorted", voice(unsorted), random(rng, next)),
         ("followers", voice(vec![b"k-k".to_vec(), b"k_-_k".to_vec()]), sheet(consonants)),
         ("far-followers", voice(vec![b"k-k".to_vec()]), random(rng, |i| 1 + i * 1_543 % MAX_COUNT)),
         ("long-periods", long_periods(), sheet(alternating())),
+        ("wide", voice(wide), random(rng, next)),
     ]
 }
 

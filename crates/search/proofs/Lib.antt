@@ -1,0 +1,3 @@
+-- The root of search's laws.
+pub mod FirstLaws
+pub mod SearchLaws
