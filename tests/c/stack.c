@@ -20,7 +20,7 @@ static const uint8_t sheet[] = "\x03\x03pau\x02\x00\x02"
                                "aa\x02\x01\x02"
                                "aa\x02\x01";
 static uint8_t lent[BUFFERS][LENT], samples[LENT], need[DIPHONE_NEED_BYTES];
-static uint32_t join, filter;
+static uint32_t settings;
 
 static int64_t call(int function)
 {
@@ -32,9 +32,9 @@ static int64_t call(int function)
     case OPEN:
         return diphone_open(file, length, lent[INDEX], LENT, lent[SUMMARY], LENT);
     case NEED:
-        return diphone_need(file, length, sheet, sizeof sheet, join, 0, need, sizeof need);
+        return diphone_need(file, length, sheet, sizeof sheet, settings, need, sizeof need);
     case PLAN:
-        return diphone_plan(file, length, sheet, sizeof sheet, join, filter, 0, lent[INDEX], len[INDEX],
+        return diphone_plan(file, length, sheet, sizeof sheet, settings, lent[INDEX], len[INDEX],
                             lent[MARKS], len[MARKS], lent[SIZES], len[SIZES], lent[ROWS], len[ROWS],
                             lent[EXCITATION], len[EXCITATION], lent[DECODED], len[DECODED], lent[STATE],
                             LENT, lent[SUMMARY], LENT);
@@ -84,8 +84,7 @@ int main(void)
         return 1;
     for (uint32_t setting = 0; setting < 12; setting += 1) {
         example(setting % 2, 32, 2);
-        join = setting / 2 % 3;
-        filter = setting / 6;
+        settings = setting / 2 % 3 | (setting / 6 == 0 ? DIPHONE_FILTER_FIXED : DIPHONE_FILTER_FLOAT);
         for (int function = OPEN; function < FUNCTIONS; function += 1) {
             size_t bytes_taken = taken(function);
             expect(answer == 0 || (function == PULL && answer >= DIPHONE_DONE), "the call is made");

@@ -5,22 +5,19 @@ use mathlib.Core.List.{List, [], _∷_}
 use mathlib.Core.Option.{none}
 use Prim.Native.Nat.{ℕ, suc, _*_, _^_, _≤_, _<_}
 use native.Mathlib.Omega.{arith}
-use lib.Dec.{leb, ltb}
+use lib.Dec.{ltb}
 use lib.ListN.{length, length-map}
 use Rattle.base.proofs.BoundLaws.{Below}
-use Rattle.base.proofs.CaseLaws.{by-order}
 use Rattle.voice.specs.Voice.{Voice}
 use Rattle.sheet.specs.declared.Target.{Target}
 use Rattle.sheet.specs.Sheet.{SegmentRead, Sheet}
-use Rattle.units.specs.declared.Unit.{Unit}
 use Rattle.units.specs.Selecting.{folded}
-use Rattle.units.specs.Units.{unitsOf, greatestEnd}
+use Rattle.units.specs.Units.{unitsOf}
 use Rattle.marks.specs.PitchMarks.{mostMarks}
 use Rattle.marks.specs.NaturalMarks.{naturalMarks}
-use Rattle.marks.specs.Checking.{upTo}
 use Rattle.marks.proofs.CountLaws.{marks-most, refusal-most}
-use Rattle.excitation.specs.Taken.{Period, takenFrom, taken, sizesOf, excitationOf}
-use Rattle.excitation.proofs.CountLaws.{taken-few, taken-count}
+use Rattle.excitation.specs.Taken.{Period, taken, sizesOf, excitationOf}
+use Rattle.excitation.proofs.CountLaws.{taken-most}
 use Rattle.excitation.proofs.SizedLaws.{total, sizes-total, taken-sized, taken-sizes}
 use Rattle.call.specs.declared.JoinType.{JoinType}
 use Rattle.call.specs.declared.JoinType.the-variants.{None, Simple, ModifiedLpc}
@@ -47,31 +44,6 @@ plan-most v s o e = by (ltb (length (s .segments)) 2) e
     by false e = by-most (o .join) v (folded (o .fold) (s .segments)) (s .targets) e
 
 -- ---- periods and samples
-
-upTo-most : (end : ℕ) (ms : List ℕ) → length (upTo end ms) ≤ length ms
-unfolding upTo
-upTo-most end [] = omega arith
-upTo-most end (m ∷ ms) = by (leb m end) (upTo-most end ms)
-  where
-    by : (t : Bool) → length (upTo end ms) ≤ length ms → length {A = ℕ} (elim t [ false ↦ [] | true ↦ m ∷ upTo end ms ]) ≤ length (m ∷ ms)
-    by true l = omega arith
-    by false l = omega arith
-
--- no more periods are taken than there are marks
-taken-most : (v : Voice) (us : List Unit) (ms : List ℕ) → length (taken v us ms) ≤ length ms
-unfolding taken takenFrom
-taken-most v [] ms = by (ltb (length ms) 2)
-  where
-    by : (t : Bool) → length {A = Period} (elim t [ true ↦ [] | false ↦ takenFrom v 0 0 [] ms ]) ≤ length ms
-    by true = omega arith
-    by false = omega arith
-taken-most v (u ∷ us) ms =
-    by-order (length ms) 2
-    (λ l. let e = taken-few v (u ∷ us) ms l .0 in omega arith)
-    (λ l.
-    let e = taken-count v (u ∷ us) ms l (omega arith) in
-    let k = upTo-most (greatestEnd (u ∷ us)) ms in
-    omega arith)
 
 total-most : (xs : List ℕ) → Below (2 ^ 32) xs → total xs ≤ length xs * 4294967296
 total-most [] h = omega arith

@@ -1,4 +1,5 @@
 -- Laws about excitation's definitions.
+pub mod ShareLaws
 pub mod TakenLaws
 pub mod SizedLaws
 pub mod WindowLaws

@@ -2,65 +2,69 @@
 use mathlib.Core.Path.{_≡_, refl, sym, _∙_}
 use mathlib.Core.Bool.{Bool, true, false}
 use mathlib.Core.List.{List, [], _∷_, _++_, map}
-use Prim.Native.Nat.{ℕ, _+_, _-_, _*_, _/_, _^_, _≤_, _<_}
+use Prim.Native.Nat.{ℕ, zero, suc, _+_, _-_, _*_, _/_, _^_, _≤_, _<_}
 use native.Mathlib.Nat.{zero-mul, suc-mul}
 use native.Mathlib.Omega.{arith}
 use borrow.Author.Tests.{ltb-true, ltb-false}
-use lib.Dec.{leb, ltb}
+use lib.Dec.{ltb}
 use lib.IntN.{pos}
 use lib.Ieee.{Float, fin}
-use lib.ListN.{length, replicate, length-append, length-take, length-drop, length-replicate}
+use lib.ListN.{length, drop, replicate, length-append, length-take, length-drop, length-replicate}
 use Rattle.base.specs.Choice.{pick}
 use Rattle.base.specs.Lists.{part}
 use Rattle.base.specs.Buffers.{flat}
 use Rattle.base.specs.Bytes.{Bytes, u16At}
-use Rattle.base.proofs.BoundLaws.{Each, nil, cons, each-all, each-append, Below, below-map, below-flat}
+use Rattle.base.proofs.BoundLaws.{Each, nil, cons, each-all, each-append, each-take, Below, below-map, below-flat}
 use Rattle.base.proofs.BufferLaws.{length-upto}
 use Rattle.voice.specs.Voice.{Voice}
 use Rattle.voice.specs.Periods.{rowOf}
 use Rattle.voice.proofs.LowLaws.{row-low}
 use Rattle.units.specs.declared.Unit.{Unit}
+use Rattle.marks.specs.Checking.{lastOf}
 use Rattle.marks.proofs.LimitLaws.{Low}
 use Rattle.excitation.specs.Source.{sourceOf, centred}
 use Rattle.excitation.specs.Nearest.{nearestPeriod, paceOf, placeAfterSize}
-use Rattle.excitation.specs.Taken.{Period, periodOf, Taking, takeUnit, takenFrom, taken, sizesOf, rowsOf, excitationOf}
-use Rattle.excitation.proofs.TakenLaws.{takeMark, twoMarks}
+use Rattle.excitation.specs.Shares.{upToEnd, Share, shareOf, sharesFrom, shares}
+use Rattle.excitation.specs.Taken.{Period, periodOf, periodsOfMarks, periodsOfShare, taken, sizesOf, rowsOf, excitationOf}
+use Rattle.excitation.proofs.ShareLaws.{twoMarks}
 
 -- ---- in general, from what every mark is
 
+each-drop : {A : Type 0} (P : A → Type 0) (n : ℕ) (xs : List A) → Each P xs → Each P (drop n xs)
+each-drop P zero xs e = e
+each-drop P (suc n) [] nil = nil
+each-drop P (suc n) (x ∷ xs) (cons p e) = each-drop P n xs e
+
 module _ (v : Voice) (Q : ℕ → Type 0) (P : Period → Type 0) (so : (m mark p : ℕ) → Q m → P (periodOf v (m - mark) p)) where
-  abbrev Keeps : Taking → Type 0
-  Keeps t = Each P (t .periods) × Each Q (t .left)
+  marks-each : (u : Unit) (pace place : Float) (mark : ℕ) (ms : List ℕ) → Each Q ms → Each P (periodsOfMarks v u pace place mark ms)
+  unfolding periodsOfMarks
+  marks-each u pace place mark [] nil = nil
+  marks-each u pace place mark (m ∷ ms) (cons q e) = cons (so m mark (nearestPeriod v u place) q) (marks-each u pace (placeAfterSize place pace (m - mark)) m ms e)
 
-  unit-each : (u : Unit) (pace place : Float) (mark : ℕ) (ms : List ℕ) → Each Q ms → Keeps (takeUnit v u pace place mark ms)
-  unfolding takeUnit
-  unit-each u pace place mark [] nil = (nil, nil)
-  unit-each u pace place mark (m ∷ ms) (cons q e) = by (leb m (u .«target_end»)) (unit-each u pace (placeAfterSize place pace (m - mark)) m ms e)
-    where
-      by : (t : Bool) → Keeps (takeUnit v u pace (placeAfterSize place pace (m - mark)) m ms) → Keeps (takeMark v u pace place mark m ms t)
-      by true k = (cons (so m mark (nearestPeriod v u place) q) (k .0), k .1)
-      by false k = (nil, cons q e)
+  share-each : (s : Share) → Each Q (s .marks) → Each P (periodsOfShare v s)
+  unfolding periodsOfShare
+  share-each s e = marks-each (s .unit) (paceOf v (s .unit) (s .endBefore)) (fin false 0 (pos 0)) (s .mark) (s .marks) e
 
-  from-each : (endBefore mark : ℕ) (us : List Unit) (ms : List ℕ) → Each Q ms → Each P (takenFrom v endBefore mark us ms)
-  unfolding takenFrom
+  from-each : (endBefore mark : ℕ) (us : List Unit) (ms : List ℕ) → Each Q ms → Each P (flat (periodsOfShare v) (sharesFrom endBefore mark us ms))
+  unfolding flat sharesFrom
   from-each endBefore mark [] ms e = nil
   from-each endBefore mark (u ∷ us) ms e =
-      let r = takeUnit v u (paceOf v u endBefore) (fin false 0 (pos 0)) mark ms in
-      let a = unit-each u (paceOf v u endBefore) (fin false 0 (pos 0)) mark ms e in
-      each-append P (r .periods) _ (a .0) (from-each (u .«target_end») (r .mark) us (r .left) (a .1))
+      let s = shareOf endBefore mark u ms in
+      each-append P (periodsOfShare v s) _ (share-each s (each-take Q (upToEnd u ms) ms e))
+      (from-each (u .«target_end») (lastOf mark (s .marks)) us (drop (upToEnd u ms) ms) (each-drop Q (upToEnd u ms) ms e))
 
   taken-each : (us : List Unit) (ms : List ℕ) → Each Q ms → Each P (taken v us ms)
-  unfolding taken
+  unfolding taken shares flat
   taken-each us ms e = by (ltb (length ms) 2)
     where
-      by : (t : Bool) → Each P (twoMarks t (takenFrom v 0 0 us ms))
+      by : (t : Bool) → Each P (flat (periodsOfShare v) (twoMarks t (sharesFrom 0 0 us ms)))
       by true = nil
       by false = from-each 0 0 us ms e
 
 -- whatever the marks are
 module _ (v : Voice) (P : Period → Type 0) (so : (size p : ℕ) → P (periodOf v size p)) where
-  from-all : (endBefore mark : ℕ) (us : List Unit) (ms : List ℕ) → Each P (takenFrom v endBefore mark us ms)
-  from-all endBefore mark us ms = from-each v (λ m. m ≡ m) P (λ m mark p q. so (m - mark) p) endBefore mark us ms (each-all (λ m. m ≡ m) (λ m. refl) ms)
+  share-all : (s : Share) → Each P (periodsOfShare v s)
+  share-all s = share-each v (λ m. m ≡ m) P (λ m mark p q. so (m - mark) p) s (each-all (λ m. m ≡ m) (λ m. refl) (s .marks))
 
   taken-all : (us : List Unit) (ms : List ℕ) → Each P (taken v us ms)
   taken-all us ms = taken-each v (λ m. m ≡ m) P (λ m mark p q. so (m - mark) p) us ms (each-all (λ m. m ≡ m) (λ m. refl) ms)
@@ -90,8 +94,8 @@ pub period-sized : (v : Voice) (size p : ℕ) → HasSize (v .header .order) (pe
 unfolding periodOf
 period-sized v size p = (length-row v p, length-centred size (sourceOf v p))
 
-pub from-sized : (v : Voice) (endBefore mark : ℕ) (us : List Unit) (ms : List ℕ) → Sized (v .header .order) (takenFrom v endBefore mark us ms)
-from-sized v endBefore mark us ms = from-all v (HasSize (v .header .order)) (period-sized v) endBefore mark us ms
+pub share-sized : (v : Voice) (s : Share) → Sized (v .header .order) (periodsOfShare v s)
+share-sized v s = share-all v (HasSize (v .header .order)) (period-sized v) s
 
 pub taken-sized : (v : Voice) (us : List Unit) (ms : List ℕ) → Sized (v .header .order) (taken v us ms)
 taken-sized v us ms = taken-all v (HasSize (v .header .order)) (period-sized v) us ms

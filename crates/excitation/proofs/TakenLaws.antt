@@ -1,17 +1,18 @@
 -- The periods taken in a call head those in a longer one, and are those of a voice with the same periods.
-use mathlib.Core.Path.{_≡_, refl, ap}
+use mathlib.Core.Path.{_≡_, refl, sym, _∙_}
 use mathlib.Core.Bool.{Bool, true, false}
 use mathlib.Core.List.{List, [], _∷_, _++_, append-nil}
 use Prim.Native.Nat.{ℕ, zero, suc, _+_, _-_, _≤_, _<_}
 use native.Mathlib.Omega.{arith}
-use borrow.Author.Tests.{ltb-false, le-ltb}
-use lib.Dec.{leb, ltb}
 use lib.IntN.{pos}
 use lib.Ieee.{Float, fin, binary32, add}
-use lib.ListN.{length, length-append}
+use lib.ListN.{length, take, drop, length-append}
+use lib.Seq.{take-all, take-nil, drop-nil, take-append-le, drop-append-le}
 use Rattle.base.specs.Choice.{pick}
 use Rattle.base.specs.Lists.{Heads}
+use Rattle.base.specs.Buffers.{flat}
 use Rattle.base.proofs.ListLaws.{heads-nil, heads-after, heads-cons, heads-longer}
+use Rattle.base.proofs.CaseLaws.{by-order}
 use Rattle.float.specs.Distance.{nearer}
 use Rattle.voice.specs.Voice.{Voice}
 use Rattle.voice.specs.Periods.{samplesOf}
@@ -19,54 +20,65 @@ use Rattle.voice.proofs.PeriodLaws.{Agree, samplesFrom-same}
 use Rattle.units.specs.declared.Unit.{Unit}
 use Rattle.units.proofs.UnitLaws.{Within, cons}
 use Rattle.marks.specs.NaturalMarks.{periodCount}
+use Rattle.marks.specs.Checking.{lastOf}
 use Rattle.excitation.specs.Source.{sourceOf}
 use Rattle.excitation.specs.Nearest.{f32Of, nearestFrom, nearestPeriod, paceOf, placeAfterSize}
-use Rattle.excitation.specs.Taken.{Period, periodOf, Taking, withPeriod, takeUnit, takenFrom, taken}
-
--- what a unit does with its next mark, by whether it is at most the target end
-abbrev pub takeMark : Voice → Unit → Float → Float → ℕ → ℕ → List ℕ → Bool → Taking
-takeMark v u pace place mark m ms t =
-    elim t [
-      | false ↦ record { periods = []; mark = mark; left = m ∷ ms }
-      | true ↦ withPeriod (periodOf v (m - mark) (nearestPeriod v u place)) (takeUnit v u pace (placeAfterSize place pace (m - mark)) m ms)
-    ]
+use Rattle.excitation.specs.Shares.{upToEnd, sharesFrom}
+use Rattle.excitation.specs.Taken.{Period, periodOf, periodsOfMarks, periodsOfShare, taken}
+use Rattle.excitation.proofs.ShareLaws.{Goes, stopped, ranOut, end-goes, taken-none, taken-from}
 
 -- ---- more marks and more units
 
--- what a unit takes of some marks, r, and of those and ns, t: it stopped before a mark, or ran out of them
-data Goes (ns : List ℕ) (r t : Taking) : Type 0 where
-  stopped : t .periods ≡ r .periods → t .mark ≡ r .mark → t .left ≡ r .left ++ ns → Goes ns r t
-  ranOut : r .left ≡ [] → Heads (r .periods) (t .periods) → Goes ns r t
+drop-all : (n : ℕ) (xs : List ℕ) → length xs ≤ n → drop n xs ≡ []
+drop-all n [] h = drop-nil n
+drop-all zero (x ∷ xs) h = absurd (omega arith)
+drop-all (suc n) (x ∷ xs) h = drop-all n xs (omega arith)
 
-goes-with : (ns : List ℕ) (p : Period) (r t : Taking) → Goes ns r t → Goes ns (withPeriod p r) (withPeriod p t)
-goes-with ns p r t (stopped a b c) = stopped (ap (λ (l : List Period). p ∷ l) a) b c
-goes-with ns p r t (ranOut a h) = ranOut a (heads-cons p h)
+take-longer : (n : ℕ) (xs ys : List ℕ) → length xs ≤ n → Heads xs (take n (xs ++ ys))
+take-longer n [] ys h = heads-nil _
+take-longer zero (x ∷ xs) ys h = absurd (omega arith)
+take-longer (suc n) (x ∷ xs) ys h = heads-cons x (take-longer n xs ys (omega arith))
 
-unit-append : (v : Voice) (u : Unit) (pace : Float) (ns : List ℕ) (place : Float) (mark : ℕ) (ms : List ℕ) → Goes ns (takeUnit v u pace place mark ms) (takeUnit v u pace place mark (ms ++ ns))
-unfolding takeUnit
-unit-append v u pace ns place mark [] = ranOut refl (heads-nil _)
-unit-append v u pace ns place mark (m ∷ ms) = by (leb m (u .«target_end»)) (unit-append v u pace ns (placeAfterSize place pace (m - mark)) m ms)
-  where
-    by : (t : Bool) → Goes ns (takeUnit v u pace (placeAfterSize place pace (m - mark)) m ms) (takeUnit v u pace (placeAfterSize place pace (m - mark)) m (ms ++ ns))
-        → Goes ns (takeMark v u pace place mark m ms t) (takeMark v u pace place mark m (ms ++ ns) t)
-    by true ih = goes-with ns (periodOf v (m - mark) (nearestPeriod v u place)) _ _ ih
-    by false ih = stopped refl refl refl
+module _ (v : Voice) where
+  abbrev with : ℕ → ℕ → Unit → List ℕ → List Period
+  with endBefore mark u ms = periodsOfShare v (record { unit = u; endBefore = endBefore; mark = mark; marks = ms })
 
-none-taken : (v : Voice) (endBefore mark : ℕ) (us : List Unit) → takenFrom v endBefore mark us [] ≡ []
-unfolding takenFrom takeUnit
-none-taken v endBefore mark [] = refl
-none-taken v endBefore mark (u ∷ us) = none-taken v (u .«target_end») mark us
+  abbrev from : ℕ → ℕ → List Unit → List ℕ → List Period
+  from endBefore mark us ms = flat (periodsOfShare v) (sharesFrom endBefore mark us ms)
 
-from-append : (v : Voice) (endBefore mark : ℕ) (us vs : List Unit) (ms ns : List ℕ) → Heads (takenFrom v endBefore mark us ms) (takenFrom v endBefore mark (us ++ vs) (ms ++ ns))
-unfolding takenFrom
-from-append v endBefore mark [] vs ms ns = heads-nil _
-from-append v endBefore mark (u ∷ us) vs ms ns =
-    by _ _ (unit-append v u (paceOf v u endBefore) ns (fin false 0 (pos 0)) mark ms) (λ mark ms. from-append v (u .«target_end») mark us vs ms ns)
-  where
-    by : (r t : Taking) → Goes ns r t → ((mark : ℕ) (ms : List ℕ) → Heads (takenFrom v (u .«target_end») mark us ms) (takenFrom v (u .«target_end») mark (us ++ vs) (ms ++ ns)))
-        → Heads (r .periods ++ takenFrom v (u .«target_end») (r .mark) us (r .left)) (t .periods ++ takenFrom v (u .«target_end») (t .mark) (us ++ vs) (t .left))
-    by r t (stopped a b c) ih = rw (a, b, c) (heads-after (r .periods) (ih (r .mark) (r .left)))
-    by r t (ranOut a h) ih = rw (a, none-taken v (u .«target_end») (r .mark) us, append-nil) (heads-longer _ h)
+  periods-longer : (u : Unit) (pace place : Float) (mark : ℕ) (ms more : List ℕ) → Heads (periodsOfMarks v u pace place mark ms) (periodsOfMarks v u pace place mark (ms ++ more))
+  unfolding periodsOfMarks
+  periods-longer u pace place mark [] more = heads-nil _
+  periods-longer u pace place mark (m ∷ ms) more = heads-cons _ (periods-longer u pace _ m ms more)
+
+  share-longer : (endBefore mark : ℕ) (u : Unit) {ms ns : List ℕ} → Heads ms ns → Heads (with endBefore mark u ms) (with endBefore mark u ns)
+  unfolding periodsOfShare
+  share-longer endBefore mark u {ms} {ns} h = let e = h .whole in rw e (periods-longer u (paceOf v u endBefore) (fin false 0 (pos 0)) mark ms (h .more))
+
+  none-taken : (endBefore mark : ℕ) (us : List Unit) → from endBefore mark us [] ≡ []
+  unfolding flat sharesFrom lastOf periodsOfShare periodsOfMarks
+  none-taken endBefore mark [] = refl
+  none-taken endBefore mark (u ∷ us) =
+      let a = take-nil {A = ℕ} (upToEnd u []) in
+      let b = drop-nil {A = ℕ} (upToEnd u []) in
+      rw (a, b) (none-taken (u .«target_end») mark us)
+
+  from-append : (endBefore mark : ℕ) (us vs : List Unit) (ms ns : List ℕ) → Heads (from endBefore mark us ms) (from endBefore mark (us ++ vs) (ms ++ ns))
+  unfolding flat sharesFrom
+  from-append endBefore mark [] vs ms ns = heads-nil _
+  from-append endBefore mark (u ∷ us) vs ms ns = by (upToEnd u ms) (upToEnd u (ms ++ ns)) (end-goes u ms ns) (λ m ms. from-append (u .«target_end») m us vs ms ns)
+    where
+      by : (a b : ℕ) → Goes (length ms) a b → ((m : ℕ) (ms : List ℕ) → Heads (from (u .«target_end») m us ms) (from (u .«target_end») m (us ++ vs) (ms ++ ns)))
+          → Heads (with endBefore mark u (take a ms) ++ from (u .«target_end») (lastOf mark (take a ms)) us (drop a ms))
+          (with endBefore mark u (take b (ms ++ ns)) ++ from (u .«target_end») (lastOf mark (take b (ms ++ ns))) (us ++ vs) (drop b (ms ++ ns)))
+      by a b (stopped l e) ih =
+          let p = take-append-le a ms ns l in
+          let q = drop-append-le a ms ns l in
+          rw (e, p, q) (heads-after (with endBefore mark u (take a ms)) (ih (lastOf mark (take a ms)) (drop a ms)))
+      by a b (ranOut l m) ih =
+          let p = take-all a ms l in
+          let q = drop-all a ms l in
+          rw (p, q, none-taken (u .«target_end») (lastOf mark ms) us, append-nil) (heads-longer _ (share-longer endBefore mark u (take-longer b ms ns m)))
 
 -- ---- another voice with the same periods
 
@@ -106,46 +118,36 @@ module _ (v w : Voice) (n : ℕ) (g : Agree v w n) (some : 1 ≤ n) where
     unfolding paceOf
     pace-same endBefore = let a = samplesFrom-same v w n g (u .«first_period») (periodCount u) (omega arith) in rw a
 
-    unit-same : (pace place : Float) (mark : ℕ) (ms : List ℕ) → takeUnit w u pace place mark ms ≡ takeUnit v u pace place mark ms
-    unfolding takeUnit
-    unit-same pace place mark [] = refl
-    unit-same pace place mark (x ∷ ms) =
+    share-same : (pace place : Float) (mark : ℕ) (ms : List ℕ) → periodsOfMarks w u pace place mark ms ≡ periodsOfMarks v u pace place mark ms
+    unfolding periodsOfMarks
+    share-same pace place mark [] = refl
+    share-same pace place mark (x ∷ ms) =
         let a = unit-nearest place in
         let b = period-same (x - mark) (nearestPeriod v u place) (unit-low place) in
-        let c = unit-same pace (placeAfterSize place pace (x - mark)) x ms in
-        by (leb x (u .«target_end»)) a b c
-      where
-        by : (t : Bool) → nearestPeriod w u place ≡ nearestPeriod v u place → periodOf w (x - mark) (nearestPeriod v u place) ≡ periodOf v (x - mark) (nearestPeriod v u place)
-            → takeUnit w u pace (placeAfterSize place pace (x - mark)) x ms ≡ takeUnit v u pace (placeAfterSize place pace (x - mark)) x ms
-            → takeMark w u pace place mark x ms t ≡ takeMark v u pace place mark x ms t
-        by true a b c = rw (a, b, c)
-        by false a b c = refl
+        rw (a, b, share-same pace (placeAfterSize place pace (x - mark)) x ms)
 
-  from-same : (endBefore mark : ℕ) (us : List Unit) (ms : List ℕ) → Within n us → takenFrom w endBefore mark us ms ≡ takenFrom v endBefore mark us ms
-  unfolding takenFrom
+  from-same : (endBefore mark : ℕ) (us : List Unit) (ms : List ℕ) → Within n us → from w endBefore mark us ms ≡ from v endBefore mark us ms
+  unfolding flat sharesFrom periodsOfShare
   from-same endBefore mark [] ms i = refl
   from-same endBefore mark (u ∷ us) ms (cons l m i) =
+      let own = take (upToEnd u ms) ms in
       let a = pace-same u l m endBefore in
-      let b = unit-same u l m (paceOf v u endBefore) (fin false 0 (pos 0)) mark ms in
-      let r = takeUnit v u (paceOf v u endBefore) (fin false 0 (pos 0)) mark ms in
-      rw (a, b) (ap (λ (l : List Period). r .periods ++ l) (from-same (u .«target_end») (r .mark) us (r .left) i))
+      let b = share-same u l m (paceOf v u endBefore) (fin false 0 (pos 0)) mark own in
+      rw (a, b, from-same (u .«target_end») (lastOf mark own) us (drop (upToEnd u ms) ms) i)
 
 -- ---- the same with the test for two marks
 
-abbrev pub twoMarks : Bool → List Period → List Period
-twoMarks t ps = elim t [ true ↦ [] | false ↦ ps ]
-
 pub taken-append : (v : Voice) (us vs : List Unit) (ms ns : List ℕ) → Heads (taken v us ms) (taken v (us ++ vs) (ms ++ ns))
-unfolding taken
-taken-append v us vs ms ns = by (ltb (length ms) 2) refl
-  where
-    by : (t : Bool) → ltb (length ms) 2 ≡ t → Heads (twoMarks t (takenFrom v 0 0 us ms)) (taken v (us ++ vs) (ms ++ ns))
-    by true e = heads-nil _
-    by false e =
-        let a : 2 ≤ length ms = ltb-false (length ms) 2 e in
-        let b : 2 ≤ length (ms ++ ns) = rw length-append (omega arith) in
-        rw (le-ltb (length (ms ++ ns)) 2 b, taken) (from-append v 0 0 us vs ms ns)
+taken-append v us vs ms ns =
+    by-order (length ms) 2
+    (λ l. let a = taken-none us ms v l in rw a (heads-nil _))
+    (λ l.
+    let a = taken-from us ms v l in
+    let b = taken-from (us ++ vs) (ms ++ ns) v (rw length-append (omega arith)) in
+    rw (a, b) (from-append v 0 0 us vs ms ns))
 
 pub taken-same : (v w : Voice) (n : ℕ) → Agree v w n → 1 ≤ n → (us : List Unit) (ms : List ℕ) → Within n us → taken w us ms ≡ taken v us ms
-unfolding taken
-taken-same v w n g some us ms i = ap (twoMarks (ltb (length ms) 2)) (from-same v w n g some 0 0 us ms i)
+taken-same v w n g some us ms i =
+    by-order (length ms) 2
+    (λ l. taken-none us ms w l ∙ sym (taken-none us ms v l))
+    (λ l. taken-from us ms w l ∙ from-same v w n g some 0 0 us ms i ∙ sym (taken-from us ms v l))

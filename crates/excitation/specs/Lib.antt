@@ -1,4 +1,5 @@
 -- The root of excitation's definitions.
 pub mod Source
 pub mod Nearest
+pub mod Shares
 pub mod Taken

@@ -1,10 +1,9 @@
--- Document 01, 'Selecting and marking': 'Per unit, the marks not yet taken and not above the target end are taken in order.'
-use mathlib.Core.Bool.{true, false}
-use mathlib.Core.List.{List, [], _∷_, _++_, map}
+-- Document 01, 'Selecting and marking': the periods taken, one for each mark, and what they fill.
+use mathlib.Core.Bool.{false}
+use mathlib.Core.List.{List, [], _∷_, map}
 use Prim.Native.Nat.{ℕ, _-_}
-use lib.Dec.{ltb, leb}
+use lib.Dec.{ltb}
 use lib.IntN.{pos}
-use lib.ListN.{length}
 use lib.Ieee.{Float, fin}
 use Rattle.base.specs.Choice.{pick}
 use Rattle.base.specs.Buffers.{over, flat}
@@ -14,6 +13,7 @@ use Rattle.voice.specs.Periods.{rowOf, residualOf}
 use Rattle.units.specs.declared.Unit.{Unit}
 use Rattle.excitation.specs.Source.{decodedBy, sourceOf, centred}
 use Rattle.excitation.specs.Nearest.{nearestPeriod, paceOf, placeAfterSize}
+use Rattle.excitation.specs.Shares.{Share, shares}
 
 -- a taken period: the number of the voice's period from 0, 'its mark less the mark before it', the row of order values q as stored, and its window of the excitation
 pub record Period : Type 0 where
@@ -25,34 +25,19 @@ pub record Period : Type 0 where
 unfoldable pub periodOf : Voice → ℕ → ℕ → Period
 periodOf v size p = record { number = p; size = size; row = rowOf v p; bytes = centred size (sourceOf v p) }
 
--- what one unit takes: its periods, the last mark taken, and the marks that are left
-pub record Taking : Type 0 where
-  pub periods : List Period
-  pub mark : ℕ
-  pub left : List ℕ
+-- for some marks of a unit, from a place in it on; `mark` is the mark before
+unfoldable pub periodsOfMarks : Voice → Unit → Float → Float → ℕ → List ℕ → List Period
+periodsOfMarks v u pace place mark [] = []
+periodsOfMarks v u pace place mark (m ∷ ms) =
+    periodOf v (m - mark) (nearestPeriod v u place) ∷ periodsOfMarks v u pace (placeAfterSize place pace (m - mark)) m ms
 
-abbrev pub withPeriod : Period → Taking → Taking
-withPeriod p t = record { periods = p ∷ t .periods; mark = t .mark; left = t .left }
+-- 'The place in a unit starts at 0'
+unfoldable pub periodsOfShare : Voice → Share → List Period
+periodsOfShare v s = periodsOfMarks v (s .unit) (paceOf v (s .unit) (s .endBefore)) (fin false 0 (pos 0)) (s .mark) (s .marks)
 
--- from a place in the unit on; `mark` is the mark before, 0 before the first
-unfoldable pub takeUnit : Voice → Unit → Float → Float → ℕ → List ℕ → Taking
-takeUnit v u pace place mark [] = record { periods = []; mark = mark; left = [] }
-takeUnit v u pace place mark (m ∷ ms) =
-    elim (leb m (u .«target_end»)) [
-      | false ↦ record { periods = []; mark = mark; left = m ∷ ms }
-      | true ↦ withPeriod (periodOf v (m - mark) (nearestPeriod v u place)) (takeUnit v u pace (placeAfterSize place pace (m - mark)) m ms)
-    ]
-
--- unit after unit; `endBefore` is the target end of the unit before
-unfoldable pub takenFrom : Voice → ℕ → ℕ → List Unit → List ℕ → List Period
-takenFrom v endBefore mark [] ms = []
-takenFrom v endBefore mark (u ∷ us) ms =
-    let t = takeUnit v u (paceOf v u endBefore) (fin false 0 (pos 0)) mark ms in
-    t .periods ++ takenFrom v (u .«target_end») (t .mark) us (t .left)
-
--- 'Fewer than two marks give zero periods'
+-- 'Per unit, the marks not yet taken and not above the target end are taken in order.'
 unfoldable pub taken : Voice → List Unit → List ℕ → List Period
-taken v us ms = elim (ltb (length ms) 2) [ true ↦ [] | false ↦ takenFrom v 0 0 us ms ]
+taken v us ms = flat (periodsOfShare v) (shares us ms)
 
 -- ---- what the taken periods fill
 

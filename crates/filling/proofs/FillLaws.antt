@@ -23,6 +23,7 @@ use Rattle.units.specs.declared.Selection.{Selection}
 use Rattle.units.specs.Selecting.{folded}
 use Rattle.units.proofs.AskedLaws.{index-filled}
 use Rattle.excitation.specs.Taken.{Period, taken, rowsOf, excitationOf}
+use Rattle.excitation.proofs.ShareLaws.{taken-none}
 use Rattle.excitation.proofs.SizedLaws.{Sized, taken-sized}
 use Rattle.call.specs.declared.Settings.{Settings}
 use Rattle.call.specs.declared.Need.{Need}
@@ -31,7 +32,6 @@ use Rattle.call.proofs.CallLaws.{twoSegments}
 use Rattle.call.specs.Buffers.{Buffers, lent, filled, needOf, holds, lengthsOf, overAll}
 use Rattle.filling.specs.Filling.{planned, PeriodBuffers, lentPeriods, fillPeriods, HasRoom, joinTakes, CanJoin, CanFill}
 use Rattle.filling.proofs.PeriodLaws.{rows-count, fill-none, OverEach, fill-over}
-use Rattle.filling.proofs.JoinLaws.{taken-few}
 
 -- ---- the plan, by how many segments there are
 
@@ -113,7 +113,7 @@ module _ (file sheet : List ℕ) (o : Settings) (d : DiphoneVoice) (p : Places) 
   unfolding periodsTaken flat
   few-filled i e l =
       let q : planOf v s o ≡ emptyPlan = plan-few v s o (subst (λ (k : ℕ). k < 2) (sym (segment-count sheet p (h .places))) l) in
-      let c : ps ≡ [] = ap (λ (x : Plan). taken v (x .units) (x .marks)) q ∙ taken-few v [] [] (omega arith) in
+      let c : ps ≡ [] = ap (λ (x : Plan). taken v (x .units) (x .marks)) q ∙ taken-none [] [] v (omega arith) in
       filled-all i (b .marks) four e (sym (ap (λ (x : Plan). over (flat (bytesOf 4) (x .marks)) (b .marks)) q ∙ over-nil (b .marks))) (sym (ap (λ (x : List Period). fillPeriods v 0 0 x four) c ∙ fill-none v 0 0 four))
 
   -- two or more

@@ -5,7 +5,7 @@ use mathlib.Core.List.{List, [], _∷_}
 use mathlib.Core.Option.{none}
 use Prim.Native.Nat.{ℕ, zero, suc, _-_, _*_, _^_, _≤_, _<_}
 use native.Mathlib.Omega.{arith}
-use borrow.Author.Tests.{leb-true, le-leb, lt-ltb, le-ltb}
+use borrow.Author.Tests.{leb-true, le-leb}
 use lib.ListN.{length, take, getD, length-take}
 use Rattle.base.specs.Buffers.{over, flat}
 use Rattle.base.specs.Bytes.{bytesOf, elements}
@@ -29,13 +29,13 @@ use Rattle.marks.specs.Rising.{Rising}
 use Rattle.marks.proofs.LimitLaws.{Low}
 use Rattle.marks.proofs.RiseLaws.{natural-rises, marks-rise}
 use Rattle.marks.proofs.JoinLaws.{UnitsStoring, units-first, units-low, units-storing}
-use Rattle.excitation.specs.Taken.{Period, takenFrom, taken}
-use Rattle.excitation.proofs.TakenLaws.{twoMarks}
+use Rattle.excitation.specs.Taken.{Period}
+use Rattle.excitation.proofs.ShareLaws.{taken-none, taken-from}
 use Rattle.call.specs.declared.JoinType.{JoinType}
 use Rattle.call.specs.declared.JoinType.the-variants.{None, Simple, ModifiedLpc}
 use Rattle.call.specs.Call.{simplePlan, modifiedPlan, planBy}
 use Rattle.call.proofs.FilledLaws.{by-low}
-use Rattle.filling.specs.Filling.{selected, planned, joinUnits, PeriodBuffers, fillPeriods, HasRoom, unitsTake, CanTakeUnits, joinTakes, isSimple, CanTakePeriods, CanJoin}
+use Rattle.filling.specs.Filling.{selected, planned, joinUnits, PeriodBuffers, fillPeriods, HasRoom, takenFrom, unitsTake, CanTakeUnits, joinTakes, isSimple, CanTakePeriods, CanJoin}
 use Rattle.filling.proofs.PeriodLaws.{fill-none}
 
 -- ---- the marks of a join
@@ -81,14 +81,6 @@ low-below [] nil i = omega arith
 low-below (m ∷ ms) (cons l e) zero = omega arith
 low-below (m ∷ ms) (cons l e) (suc i) = low-below ms e i
 
-pub taken-few : (v : Voice) (us : List Unit) (ms : List ℕ) → length ms < 2 → taken v us ms ≡ []
-unfolding taken
-taken-few v us ms h = ap (λ (t : Bool). twoMarks t (takenFrom v 0 0 us ms)) (lt-ltb (length ms) 2 h)
-
-taken-some : (v : Voice) (us : List Unit) (ms : List ℕ) → 2 ≤ length ms → taken v us ms ≡ takenFrom v 0 0 us ms
-unfolding taken
-taken-some v us ms h = ap (λ (t : Bool). twoMarks t (takenFrom v 0 0 us ms)) (le-ltb (length ms) 2 h)
-
 module _ (join : JoinType) (file index sheet : List ℕ) (by : Selection) (count : ℕ) (marks : List ℕ) (b : PeriodBuffers) (h : CanTakePeriods join file index sheet by count marks b) where
   abbrev v : Voice
   v = voiceOf file
@@ -105,7 +97,7 @@ module _ (join : JoinType) (file index sheet : List ℕ) (by : Selection) (count
   -- fewer than two marks
   pub periods-none : count < 2 → b ≡ fillPeriods v 0 0 (joinTakes join file sheet by) b
   periods-none l =
-      sym (ap (λ (ps : List Period). fillPeriods v 0 0 ps b) (taken-few v (planned join file sheet by .units) ms (subst (λ (n : ℕ). n < 2) (h .counted) l)) ∙ fill-none v 0 0 b)
+      sym (ap (λ (ps : List Period). fillPeriods v 0 0 ps b) (taken-none (planned join file sheet by .units) ms v (subst (λ (n : ℕ). n < 2) (h .counted) l)) ∙ fill-none v 0 0 b)
 
   module _ (l : 2 ≤ count) where
     two : 2 ≤ length ms
@@ -118,7 +110,7 @@ module _ (join : JoinType) (file index sheet : List ℕ) (by : Selection) (count
     same-periods =
         ap (takenFrom v 0 0 (joinUnits (isSimple join) v 0 (selected file sheet by))) read-back
         ∙ ap (λ (us : List Unit). takenFrom v 0 0 us ms) (sym (join-units v (folded (by .fold) (sheetOf sheet .segments)) (sheetOf sheet .targets) join two))
-        ∙ sym (taken-some v (planned join file sheet by .units) ms two)
+        ∙ sym (taken-from (planned join file sheet by .units) ms v two)
 
     can-units : CanTakeUnits (isSimple join) file index sheet by (take (4 * count) marks) b
     can-units =

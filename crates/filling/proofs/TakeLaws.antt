@@ -3,18 +3,15 @@ use mathlib.Core.Path.{_≡_, refl, sym, ap, subst, _∙_}
 use mathlib.Core.Bool.{Bool, true, false}
 use mathlib.Core.List.{List, [], _∷_, _++_}
 use mathlib.Core.Option.{none, some}
-use Prim.Native.Nat.{ℕ, _+_, _-_, _*_, _≤_}
+use Prim.Native.Nat.{ℕ, _+_, _*_, _≤_}
 use native.Mathlib.Omega.{arith}
 use borrow.Author.Tests.{leb-true}
 use lib.Dec.{leb}
-use lib.IntN.{pos}
-use lib.Ieee.{Float, fin}
-use lib.ListN.{length, drop, length-append}
+use lib.ListN.{length, drop}
 use lib.Seq.{sets, length-sets}
 use Rattle.base.specs.Choice.{pick}
 use Rattle.base.specs.Buffers.{flat}
 use Rattle.base.specs.Bytes.{bytesOf, elements}
-use Rattle.base.proofs.BoundLaws.{nil, cons}
 use Rattle.refusal.specs.declared.Refusal.the-variants.{PastLimit}
 use Rattle.voice.specs.declared.DiphoneVoice.{DiphoneVoice}
 use Rattle.voice.specs.declared.VoiceHeader.{VoiceHeader}
@@ -28,14 +25,16 @@ use Rattle.units.specs.declared.UnitWalk.{UnitWalk}
 use Rattle.units.specs.Units.{endingAt, Inside, limit, endRefusal}
 use Rattle.units.specs.Walking.{unitsLeft, StartsUnits}
 use Rattle.marks.specs.NaturalMarks.{periodCount, naturalUnits}
+use Rattle.marks.specs.Checking.{lastOf}
 use Rattle.marks.specs.Rising.{Rising}
-use Rattle.excitation.specs.Nearest.{nearestPeriod, paceOf, placeAfterSize}
-use Rattle.excitation.specs.Taken.{Period, periodOf, Taking, takeUnit, takenFrom, rowsOf, excitationOf}
-use Rattle.excitation.proofs.TakenLaws.{takeMark}
-use Rattle.excitation.proofs.SizedLaws.{Sized, period-sized}
+use Rattle.excitation.specs.Shares.{upToEnd, Share, shareOf, sharesFrom}
+use Rattle.excitation.specs.Taken.{Period, periodsOfShare, rowsOf, excitationOf}
+use Rattle.excitation.proofs.ShareLaws.{front-rises, rest-rises}
+use Rattle.excitation.proofs.SizedLaws.{Sized, share-sized}
+use Rattle.excitation.proofs.CountLaws.{share-last}
 use Rattle.taking.specs.declared.Progress.{Progress}
 use Rattle.taking.specs.Taking.{Held, unitTaken, CanTake, Takes}
-use Rattle.filling.specs.Filling.{joinUnit, joinUnits, PeriodBuffers, lentPeriods, fillPeriods, HasRoom, CanTakeUnits, unitsTake}
+use Rattle.filling.specs.Filling.{joinUnit, joinUnits, PeriodBuffers, lentPeriods, fillPeriods, HasRoom, takenFrom, CanTakeUnits, unitsTake}
 use Rattle.filling.proofs.PeriodLaws.{same-buffers, fill-append, fill-none, room-first, room-rest}
 
 -- ---- the units of a join
@@ -69,21 +68,15 @@ low-first u us e = by (leb (u .«target_end») limit) refl e
 -- ---- what one unit takes
 
 -- its periods have rows of the order; their samples end at the last mark taken, and the marks that are left do not fall
-record UnitTakes (v : Voice) (mark : ℕ) (t : Taking) : Type 0 where
-  sized : Sized (v .header .order) (t .periods)
-  ends : mark + length (excitationOf (t .periods)) ≡ t .mark
-  rising : Rising (t .mark) (t .left)
+record UnitTakes (v : Voice) (s : Share) (left : List ℕ) : Type 0 where
+  sized : Sized (v .header .order) (periodsOfShare v s)
+  ends : s .mark + length (excitationOf (periodsOfShare v s)) ≡ lastOf (s .mark) (s .marks)
+  rising : Rising (lastOf (s .mark) (s .marks)) left
 
-unit-takes : (v : Voice) (u : Unit) (pace place : Float) (mark : ℕ) (ms : List ℕ) → Rising mark ms → UnitTakes v mark (takeUnit v u pace place mark ms)
-unfolding takeUnit excitationOf flat periodOf
-unit-takes v u pace place mark [] r = record { sized = nil; ends = omega arith; rising = tt }
-unit-takes v u pace place mark (m ∷ ms) (l, r) = by (leb m (u .«target_end»)) (unit-takes v u pace (placeAfterSize place pace (m - mark)) m ms r)
-  where
-    by : (t : Bool) → UnitTakes v m (takeUnit v u pace (placeAfterSize place pace (m - mark)) m ms) → UnitTakes v mark (takeMark v u pace place mark m ms t)
-    by true k =
-        let p = period-sized v (m - mark) (nearestPeriod v u place) in
-        record { sized = cons p (k .sized); ends = simp length-append (omega (arith, k .ends, p .1)); rising = k .rising }
-    by false k = record { sized = nil; ends = omega arith; rising = (l, r) }
+unit-takes : (v : Voice) (endBefore mark : ℕ) (u : Unit) (ms : List ℕ) → Rising mark ms → UnitTakes v (shareOf endBefore mark u ms) (drop (upToEnd u ms) ms)
+unit-takes v endBefore mark u ms r =
+    let s = shareOf endBefore mark u ms in
+    record { sized = share-sized v s; ends = share-last v s (front-rises (upToEnd u ms) mark ms r); rising = rest-rises (upToEnd u ms) mark ms r }
 
 -- ---- one turn of the loop
 
@@ -110,7 +103,7 @@ taking-first natural file index sheet by marks b w h s =
 
 -- after the last one
 pub taking-done : (v : Voice) (natural : Bool) (us : List Unit) (end taken mark : ℕ) (left : List ℕ) (b all : PeriodBuffers) → UnitsTaking v natural us end taken mark left b all → us ≡ [] → b ≡ all
-unfolding takenFrom
+unfolding sharesFrom flat
 taking-done v natural us end taken mark left b all k e =
     sym (fill-none v taken mark b)
     ∙ ap (λ (l : List Unit). fillPeriods v taken mark (takenFrom v end mark l left) b) (sym (join-none natural v end))
@@ -122,14 +115,24 @@ module _ (v : Voice) (natural : Bool) (us : List Unit) (end taken mark : ℕ) (l
   abbrev w : Unit
   w = joinUnit natural v end u
 
-  abbrev t : Taking
-  t = takeUnit v w (paceOf v w end) (fin false 0 (pos 0)) mark left
+  abbrev s : Share
+  s = shareOf end mark w left
+
+  abbrev ps : List Period
+  ps = periodsOfShare v s
+
+  -- the last mark taken, and those that are left then
+  abbrev last : ℕ
+  last = lastOf mark (s .marks)
+
+  abbrev left₁ : List ℕ
+  left₁ = drop (upToEnd w left) left
 
   abbrev after : List Unit
   after = joinUnits natural v (w .«target_end») rest
 
   abbrev others : List Period
-  others = takenFrom v (w .«target_end») (t .mark) after (t .left)
+  others = takenFrom v (w .«target_end») last after left₁
 
   join-is : joinUnits natural v end us ≡ w ∷ after
   join-is = ap (joinUnits natural v end) e ∙ join-more natural v end u rest
@@ -137,26 +140,26 @@ module _ (v : Voice) (natural : Bool) (us : List Unit) (end taken mark : ℕ) (l
   lows : (w .«target_end» ≤ limit) × (endRefusal after ≡ none)
   lows = low-first w after (sym (ap endRefusal join-is) ∙ k .low)
 
-  takes : UnitTakes v mark t
-  takes = unit-takes v w (paceOf v w end) (fin false 0 (pos 0)) mark left (k .rising)
+  takes : UnitTakes v s left₁
+  takes = unit-takes v end mark w left (k .rising)
 
-  taken-is : takenFrom v end mark (joinUnits natural v end us) left ≡ t .periods ++ others
-  unfolding takenFrom
+  taken-is : takenFrom v end mark (joinUnits natural v end us) left ≡ ps ++ others
+  unfolding sharesFrom flat
   taken-is = ap (λ (l : List Unit). takenFrom v end mark l left) join-is
 
-  room-is : HasRoom v taken mark (t .periods ++ others) b
+  room-is : HasRoom v taken mark (ps ++ others) b
   room-is = subst (λ (ps : List Period). HasRoom v taken mark ps b) taken-is (k .room)
 
-  room-unit : HasRoom v taken mark (t .periods) b
-  room-unit = room-first v taken mark (t .periods) others (takes .sized) (t .mark) (takes .ends) b room-is
+  room-unit : HasRoom v taken mark ps b
+  room-unit = room-first v taken mark ps others (takes .sized) last (takes .ends) b room-is
 
   -- what the unit takes fits
   pub taking-low : w .«target_end» ≤ limit
   taking-low = lows .0
 
   -- the units after it
-  taking-rest : (b₁ : PeriodBuffers) → b₁ ≡ fillPeriods v taken mark (t .periods) b → length (b₁ .decoded) ≡ length (b .decoded)
-      → UnitsTaking v natural rest (w .«target_end») (taken + length (t .periods)) (t .mark) (t .left) b₁ all
+  taking-rest : (b₁ : PeriodBuffers) → b₁ ≡ fillPeriods v taken mark ps b → length (b₁ .decoded) ≡ length (b .decoded)
+      → UnitsTaking v natural rest (w .«target_end») (taken + length ps) last left₁ b₁ all
   unfolding fillPeriods
   taking-rest b₁ q d =
       record {
@@ -164,20 +167,20 @@ module _ (v : Voice) (natural : Bool) (us : List Unit) (end taken mark : ℕ) (l
         endLow = lows .0;
         rising = takes .rising;
         room =
-            room-rest v taken mark (t .periods) others (takes .sized) (t .mark) (takes .ends) b room-is b₁
+            room-rest v taken mark ps others (takes .sized) last (takes .ends) b room-is b₁
             (ap (λ (x : PeriodBuffers). length (x .sizes)) q ∙ simp length-sets)
             (ap (λ (x : PeriodBuffers). length (x .rows)) q ∙ simp length-sets)
             (ap (λ (x : PeriodBuffers). length (x .excitation)) q ∙ simp length-sets) d;
         filled =
-            ap (λ (x : PeriodBuffers). fillPeriods v (taken + length (t .periods)) (t .mark) others x) q
-            ∙ sym (fill-append v taken mark (t .periods) others (takes .sized) (t .mark) (takes .ends) b)
+            ap (λ (x : PeriodBuffers). fillPeriods v (taken + length ps) last others x) q
+            ∙ sym (fill-append v taken mark ps others (takes .sized) last (takes .ends) b)
             ∙ ap (λ (ps : List Period). fillPeriods v taken mark ps b) (sym taken-is)
             ∙ k .filled;
       }
 
-  pub taking-next : (taken₁ mark₁ : ℕ) (left₁ : List ℕ) (b₁ : PeriodBuffers) → taken₁ ≡ taken + length (t .periods) → mark₁ ≡ t .mark → left₁ ≡ t .left → b₁ ≡ fillPeriods v taken mark (t .periods) b
-      → length (b₁ .decoded) ≡ length (b .decoded) → UnitsTaking v natural rest (w .«target_end») taken₁ mark₁ left₁ b₁ all
-  taking-next taken₁ mark₁ left₁ b₁ p q r s d = same-taking v natural rest (w .«target_end») _ taken₁ _ mark₁ _ left₁ b₁ b₁ all p q r refl (taking-rest b₁ s d)
+  pub taking-next : (taken₁ mark₁ : ℕ) (l : List ℕ) (b₁ : PeriodBuffers) → taken₁ ≡ taken + length ps → mark₁ ≡ last → l ≡ left₁ → b₁ ≡ fillPeriods v taken mark ps b
+      → length (b₁ .decoded) ≡ length (b .decoded) → UnitsTaking v natural rest (w .«target_end») taken₁ mark₁ l b₁ all
+  taking-next taken₁ mark₁ l b₁ p q r s d = same-taking v natural rest (w .«target_end») _ taken₁ _ mark₁ _ l b₁ b₁ all p q r refl (taking-rest b₁ s d)
 
 -- ---- the same by the function that takes a unit's periods
 
@@ -208,7 +211,7 @@ module _ (file : List ℕ) (d : DiphoneVoice) (o : IsOpen file d) (natural : Boo
         low = taking-low (voiceOf file) natural us end (at .taken) (at .mark) m b all k u rest e;
         rising = k .rising;
         sizesRoom = r .sizes;
-        rowsRoom = subst (λ (n : ℕ). 2 * (n * (at .taken + length (unitTaken (voiceOf file) joined end marks at .periods))) ≤ length rows) order-is (r .rows);
+        rowsRoom = subst (λ (n : ℕ). 2 * (n * (at .taken + length (unitTaken (voiceOf file) joined end marks at))) ≤ length rows) order-is (r .rows);
         excitationRoom = subst (λ (n : ℕ). n ≤ length excitation) g (r .excitation);
         decodedRoom = r .decoded;
         held = h;
@@ -225,4 +228,4 @@ module _ (file : List ℕ) (d : DiphoneVoice) (o : IsOpen file d) (natural : Boo
       let s = subst (λ (x : Unit). Takes file d x end marks at r sizes sizes₁ rows rows₁ excitation excitation₁ decoded decoded₁) q given in
       subst (λ (x : Unit). UnitsTaking (voiceOf file) natural rest (x .«target_end») (r .taken) (r .mark) (drop (r .taken) (elements 4 marks)) b₁ all) (sym q)
       (taking-next (voiceOf file) natural us end (at .taken) (at .mark) m b all k u rest e (r .taken) (r .mark) (drop (r .taken) (elements 4 marks)) b₁ (s .taken) (s .mark) (s .left)
-      (same-buffers (s .sizes) (s .rows ∙ ap (λ (n : ℕ). sets rows (2 * (n * at .taken)) (flat (bytesOf 2) (rowsOf (unitTaken (voiceOf file) joined end marks at .periods)))) (sym order-is)) (s .excitation) (s .decoded)) l)
+      (same-buffers (s .sizes) (s .rows ∙ ap (λ (n : ℕ). sets rows (2 * (n * at .taken)) (flat (bytesOf 2) (rowsOf (unitTaken (voiceOf file) joined end marks at)))) (sym order-is)) (s .excitation) (s .decoded)) l)

@@ -24,7 +24,8 @@ use Rattle.units.specs.Selecting.{folded}
 use Rattle.units.specs.Units.{endingAt, unitsOf, endRefusal}
 use Rattle.marks.specs.NaturalMarks.{placeAfterUnit, naturalUnits}
 use Rattle.marks.specs.Rising.{Rising}
-use Rattle.excitation.specs.Taken.{Period, takenFrom, taken, sizesOf, rowsOf, excitationOf, decodedOver}
+use Rattle.excitation.specs.Shares.{sharesFrom}
+use Rattle.excitation.specs.Taken.{Period, periodsOfShare, taken, sizesOf, rowsOf, excitationOf, decodedOver}
 use Rattle.call.specs.declared.JoinType.{JoinType}
 use Rattle.call.specs.declared.JoinType.the-variants.{None, Simple, ModifiedLpc}
 use Rattle.call.specs.declared.Settings.{Settings}
@@ -88,7 +89,11 @@ pub record HasRoom (v : Voice) (taken mark : ℕ) (ps : List Period) (b : Period
   pub excitation : mark + length (excitationOf ps) ≤ length (b .excitation)
   pub decoded : decodeRoom v ≤ length (b .decoded)
 
--- the periods that the units take of the stored marks
+-- the periods that units take of some marks, after a target end and a mark
+abbrev pub takenFrom : Voice → ℕ → ℕ → List Unit → List ℕ → List Period
+takenFrom v end mark us ms = flat (periodsOfShare v) (sharesFrom end mark us ms)
+
+-- those that the units take of the stored marks
 abbrev pub unitsTake : Bool → List ℕ → List ℕ → Selection → List ℕ → List Period
 unitsTake natural file sheet by marks = takenFrom (voiceOf file) 0 0 (joinUnits natural (voiceOf file) 0 (selected file sheet by)) (elements 4 marks)
 

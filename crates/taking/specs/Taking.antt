@@ -1,11 +1,8 @@
 -- Document 01, 'Selecting and marking': what taking a unit's marks asks, and what it leaves in the buffers.
 use mathlib.Core.Path.{_≡_}
-use mathlib.Core.Bool.{false}
 use mathlib.Core.List.{List}
 use Prim.Native.Nat.{ℕ, _+_, _*_, _≤_, _<_}
 use lib.Dec.{ltb}
-use lib.IntN.{pos}
-use lib.Ieee.{fin}
 use lib.ListN.{length, drop}
 use lib.Seq.{sets}
 use Rattle.base.specs.Choice.{pick}
@@ -18,10 +15,11 @@ use Rattle.voice.specs.Periods.{rowOf, residualOf, decodeRoom}
 use Rattle.voice.specs.Opening.{IsOpen}
 use Rattle.units.specs.declared.Unit.{Unit}
 use Rattle.units.specs.Units.{Inside, limit}
+use Rattle.marks.specs.Checking.{lastOf}
 use Rattle.marks.specs.Rising.{Rising}
 use Rattle.excitation.specs.Source.{decodedBy, Holds, sourceOf, centred}
-use Rattle.excitation.specs.Nearest.{paceOf}
-use Rattle.excitation.specs.Taken.{Taking, takeUnit, sizesOf, rowsOf, excitationOf, decodedOver}
+use Rattle.excitation.specs.Shares.{upToEnd, Share, shareOf}
+use Rattle.excitation.specs.Taken.{Period, periodsOfShare, sizesOf, rowsOf, excitationOf, decodedOver}
 use Rattle.taking.specs.declared.Progress.{Progress}
 
 -- what a period leaves at the front of the decode buffer, and that the front has it
@@ -35,9 +33,12 @@ HasDecoded v buffer p = Holds (codecOf (v .header)) buffer (residualOf v p)
 abbrev pub Held : Voice → List ℕ → ℕ → Type 0
 Held v buffer front = front < v .header .frames → HasDecoded v buffer front
 
--- what a unit takes of the marks from element `taken` on: 'the place in a unit starts at 0'
-abbrev pub unitTaken : Voice → Unit → ℕ → List ℕ → Progress → Taking
-unitTaken v u endBefore marks at = takeUnit v u (paceOf v u endBefore) (fin false 0 (pos 0)) (at .mark) (drop (at .taken) (elements 4 marks))
+-- a unit's share of the marks from element `taken` on, and the periods that it takes for them
+abbrev pub unitShare : Unit → ℕ → List ℕ → Progress → Share
+unitShare u endBefore marks at = shareOf endBefore (at .mark) u (drop (at .taken) (elements 4 marks))
+
+abbrev pub unitTaken : Voice → Unit → ℕ → List ℕ → Progress → List Period
+unitTaken v u endBefore marks at = periodsOfShare v (unitShare u endBefore marks at)
 
 -- an open voice has the unit's periods, the marks that are left do not fall, and what the unit takes fits the buffers,
 -- of which sizes, rows and excitation have so many bytes
@@ -47,9 +48,9 @@ pub record CanTake (file : List ℕ) (d : DiphoneVoice) (u : Unit) (endBefore : 
   pub short : u .«last_period» ≤ u .«first_period» + 255
   pub low : u .«target_end» ≤ limit
   pub rising : Rising (at .mark) (drop (at .taken) (elements 4 marks))
-  pub sizesRoom : 4 * (at .taken + length (unitTaken (voiceOf file) u endBefore marks at .periods)) ≤ sizes
-  pub rowsRoom : 2 * (d .header .order * (at .taken + length (unitTaken (voiceOf file) u endBefore marks at .periods))) ≤ rows
-  pub excitationRoom : unitTaken (voiceOf file) u endBefore marks at .mark ≤ excitation
+  pub sizesRoom : 4 * (at .taken + length (unitTaken (voiceOf file) u endBefore marks at)) ≤ sizes
+  pub rowsRoom : 2 * (d .header .order * (at .taken + length (unitTaken (voiceOf file) u endBefore marks at))) ≤ rows
+  pub excitationRoom : lastOf (at .mark) (unitShare u endBefore marks at .marks) ≤ excitation
   pub decodedRoom : decodeRoom (voiceOf file) ≤ length decoded
   pub held : Held (voiceOf file) decoded (at .front)
 
@@ -57,13 +58,13 @@ pub record CanTake (file : List ℕ) (d : DiphoneVoice) (u : Unit) (endBefore : 
 -- and the excitation', and 'Each taken period of size above 0 is decoded to its front, over the one before'.
 pub record Takes (file : List ℕ) (d : DiphoneVoice) (u : Unit) (endBefore : ℕ) (marks : List ℕ) (at r : Progress)
     (sizes₀ sizes₁ rows₀ rows₁ excitation₀ excitation₁ decoded₀ decoded₁ : List ℕ) : Type 0 where
-  pub taken : r .taken ≡ at .taken + length (unitTaken (voiceOf file) u endBefore marks at .periods)
-  pub mark : r .mark ≡ unitTaken (voiceOf file) u endBefore marks at .mark
-  pub left : drop (r .taken) (elements 4 marks) ≡ unitTaken (voiceOf file) u endBefore marks at .left
-  pub sizes : sizes₁ ≡ sets sizes₀ (4 * at .taken) (flat (bytesOf 4) (sizesOf (unitTaken (voiceOf file) u endBefore marks at .periods)))
-  pub rows : rows₁ ≡ sets rows₀ (2 * (d .header .order * at .taken)) (flat (bytesOf 2) (rowsOf (unitTaken (voiceOf file) u endBefore marks at .periods)))
-  pub excitation : excitation₁ ≡ sets excitation₀ (at .mark) (excitationOf (unitTaken (voiceOf file) u endBefore marks at .periods))
-  pub decoded : decoded₁ ≡ decodedOver (voiceOf file) decoded₀ (unitTaken (voiceOf file) u endBefore marks at .periods)
+  pub taken : r .taken ≡ at .taken + length (unitTaken (voiceOf file) u endBefore marks at)
+  pub mark : r .mark ≡ lastOf (at .mark) (unitShare u endBefore marks at .marks)
+  pub left : let ms = drop (at .taken) (elements 4 marks) in drop (r .taken) (elements 4 marks) ≡ drop (upToEnd u ms) ms
+  pub sizes : sizes₁ ≡ sets sizes₀ (4 * at .taken) (flat (bytesOf 4) (sizesOf (unitTaken (voiceOf file) u endBefore marks at)))
+  pub rows : rows₁ ≡ sets rows₀ (2 * (d .header .order * at .taken)) (flat (bytesOf 2) (rowsOf (unitTaken (voiceOf file) u endBefore marks at)))
+  pub excitation : excitation₁ ≡ sets excitation₀ (at .mark) (excitationOf (unitTaken (voiceOf file) u endBefore marks at))
+  pub decoded : decoded₁ ≡ decodedOver (voiceOf file) decoded₀ (unitTaken (voiceOf file) u endBefore marks at)
   pub held : Held (voiceOf file) decoded₁ (r .front)
 
 -- ---- one period

@@ -1,16 +1,17 @@
 // What a unit takes: for each of its marks a pitch period, with its size, its row and its window of
 // the excitation.
 ghost use mathlib.Core.Path.{_≡_};
-ghost use Prim.Native.Nat.{_+_, _*_, _≤_, _<_};
-ghost use lib.ListN.{length, take};
+ghost use Prim.Native.Nat.{max, _+_, _*_, _/_, _≤_, _<_};
+ghost use lib.ListN.{length, take, drop};
 ghost use lib.Seq.{sets};
 ghost use Rattle.base.specs.Buffers.{over, flat};
-ghost use Rattle.base.specs.Bytes.{bytesOf};
+ghost use Rattle.base.specs.Bytes.{bytesOf, elements};
 ghost use Rattle.voice.specs.Header.{codecOf};
 ghost use Rattle.voice.specs.Voice.{voiceOf};
 ghost use Rattle.voice.specs.Periods.{rowOf, decodeRoom};
 ghost use Rattle.voice.specs.Opening.{IsOpen};
 ghost use Rattle.excitation.specs.Source.{sourceOf, centred};
+ghost use Rattle.excitation.specs.Shares.{upToEnd};
 ghost use Rattle.taking.specs.Taking.{decodedOf, HasDecoded, Held, CanTakeSamples, TakesSamples, CanTakePeriod, TakesPeriod, CanTake, Takes};
 use units::Unit;
 use voice::Codec;
@@ -164,7 +165,27 @@ fn take_period(
     take_samples(file, d, p, size, at, excitation, decoded)
 }
 
-// Takes the marks that are left and not above the unit's target end, a period for each.
+// The end of a unit's share of the marks, of which so many are taken: it takes those that are left
+// and not above its target end.
+fn share_end(unit: Unit, marks: &[u8], taken: usize) -> usize
+    ensures { λ r.
+        ⌜
+        (r ≡ taken + upToEnd unit (drop taken (elements 4 (now (marks .entry))))) ×
+        (r ≤ max taken (length (now (marks .entry)) / 4))
+        ⌝ }
+{
+    let count = marks.len() / 4;
+    let mut end = taken;
+    while end < count {
+        if unit.target_end < base::bytes::u32_at(marks, end) as usize {
+            return end;
+        }
+        end += 1;
+    }
+    end
+}
+
+// Takes the unit's share of the marks, a period for each.
 pub fn take_unit(
     file: &[u8],
     d: DiphoneVoice,
@@ -191,14 +212,11 @@ pub fn take_unit(
         ⌝ }
 {
     let pace = excitation::pace_of(file, d, unit, end_before);
-    let count = marks.len() / 4;
+    let end = share_end(unit, marks, at.taken);
     let mut to = at;
     let mut place = 0.0;
-    while to.taken < count {
+    while to.taken < end {
         let mark = base::bytes::u32_at(marks, to.taken) as usize;
-        if unit.target_end < mark {
-            return to;
-        }
         let size = mark - to.mark;
         let p = excitation::nearest_period(file, d, unit, place);
         let front = take_period(file, d, p, size, to, sizes, rows, excitation, decoded);
