@@ -78,9 +78,9 @@ nextOf s i g =
       td = trigb (g .tr) (p .td);
     }
 
--- 'a sample is 4 times the Recommendation's, kept to 16 bits, then its mu-law byte'. Departures from 4.2.8: COMPRESS puts an SR outside ±8159 into
--- G.711's last interval, here 4 * SR wraps (bytes 77 77 77 77 77 76: SR 8844, sample -30160, byte 2); and the synchronous coding adjustment SYNC is
--- not made (code 0 after the reset: byte 255, with SYNC 254).
+-- 'a sample is 4 times the Recommendation's, kept to 16 bits, then its mu-law byte'. Departures from 4.2.8: COMPRESS puts an SR outside
+-- ±8159 into G.711's last interval, here 4 * SR wraps (bytes 77 77 77 77 77 76: SR 8844, sample -30160, byte 2); and the synchronous
+-- coding adjustment SYNC is not made (code 0 after the reset: byte 255, with SYNC 254).
 unfoldable pub sampleIn : Signals → ℤ
 sampleIn g = signed16 (4 * g .sr % 65536)
 

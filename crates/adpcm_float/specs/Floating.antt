@@ -1,7 +1,8 @@
--- ITU-T G.726, 4.2.6: the predictor's floating format (sign 1, exponent 4 and mantissa 6 bits) and the product in it.
--- In all blocks a signal of n bits is a number below 2 ^ n; a negative one is in two's complement unless the Recommendation's list of signals says
--- signed magnitude (DQ) or floating format (DQn, SRn). `>> k` is `/ 2 ^ k`, `<< k` is `* 2 ^ k`, `& (2 ^ k - 1)` is `% 2 ^ k`, and the `**` of
--- two bits is their sum modulo 2. The words are as wide as in G.726; where those of G.721 (1988) are narrower, no value at 32 kbit/s needs more.
+-- ITU-T G.726, 4.2.6: the predictor's floating format (sign 1, exponent 4 and mantissa 6 bits) and the product in it. In all blocks a
+-- signal of n bits is a number below 2 ^ n; a negative one is in two's complement unless the Recommendation's list of signals says signed
+-- magnitude (DQ) or floating format (DQn, SRn). `>> k` is `/ 2 ^ k`, `<< k` is `* 2 ^ k`, `& (2 ^ k - 1)` is `% 2 ^ k`, and the `**` of
+-- two bits is their sum modulo 2. The words are as wide as in G.726; where those of G.721 (1988) are narrower, no value at 32 kbit/s needs
+-- more.
 use Prim.Native.Nat.{ℕ, zero, suc, _+_, _-_, _*_, _/_, _%_, _^_}
 use lib.Dec.{leb, ltb, eqb}
 use Rattle.base.specs.Choice.{pick}

@@ -32,7 +32,8 @@ sigpkOf dqsez = pick (eqb dqsez 0) 1 0
 
 -- ---- the zeros' coefficients
 
--- XOR and UPB: BnP from Bn, DQ and DQn. Every step is modulo 65,536: the blocks decide, where the prose calls the coefficients limited to ±2.
+-- XOR and UPB: BnP from Bn, DQ and DQn. Every step is modulo 65,536: the blocks decide, where the prose calls the coefficients limited to
+-- ±2.
 unfoldable pub ugb : ℕ → ℕ → ℕ
 ugb dq dqn = pick (eqb (dq % 32768) 0) 0 (pick (eqb ((dq / 32768 + dqn / 1024) % 2) 0) 128 65408)
 

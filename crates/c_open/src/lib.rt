@@ -40,7 +40,8 @@ pub fn open_in_c(voice: &[u8], index: &mut [u8], report: &mut [u8]) -> u32
         ⌜
         (r ≡ answerOf
         (opens.refusalOfOpen (now (voice .entry)) (length (now (index .entry))) (length (now (report .entry))))) ×
-        ((now (index .exit) ≡ opens.indexLeft (now (voice .entry)) (now (index .entry)) (length (now (report .entry)))) ×
+        ((now (index .exit) ≡ opens.indexLeft (now (voice .entry)) (now (index .entry))
+        (length (now (report .entry)))) ×
         (now (report .exit) ≡
         opens.recordLeft (now (voice .entry)) (length (now (index .entry))) (now (report .entry))))
         ⌝ }

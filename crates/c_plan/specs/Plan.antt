@@ -27,7 +27,8 @@ unfoldable pub refusalOfNeed : List ℕ → List ℕ → Settings → ℕ → Op
 refusalOfNeed file sheet o n = orNext (checkRefusal file sheet o) (shortReport n)
 
 abbrev pub needLeft : List ℕ → List ℕ → Settings → List ℕ → List ℕ
-needLeft file sheet o old = unlessRefused (refusalOfNeed file sheet o (length old)) (needBytes (needOf (voiceOf file) (sheetOf sheet) o)) old
+needLeft file sheet o old =
+    unlessRefused (refusalOfNeed file sheet o (length old)) (needBytes (needOf (voiceOf file) (sheetOf sheet) o)) old
 
 -- ---- diphone_plan
 

@@ -1,6 +1,6 @@
--- A filter state in bytes, 168 of them: numbers of 4 bytes for the filter (0 fixed, 1 float), the order, the ring place and the bits of coeff_min and
--- coeff_range; of 8 for the period and the sample place; and of 4 for the 33 places of the filter's history, words of the fixed filter or bits of
--- the float filter.
+-- A filter state in bytes, 168 of them: numbers of 4 bytes for the filter (0 fixed, 1 float), the order, the ring place and the bits of
+-- coeff_min and coeff_range; of 8 for the period and the sample place; and of 4 for the 33 places of the filter's history, words of the
+-- fixed filter or bits of the float filter.
 use mathlib.Core.Bool.{false}
 use mathlib.Core.List.{List, _++_}
 use Prim.Native.Nat.{ℕ, _+_, _*_}

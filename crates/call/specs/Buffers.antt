@@ -1,5 +1,5 @@
--- Document 01: what a call refuses, answers and leaves in its lent buffers. Each buffer is a list of bytes; an element of the index has 8, of marks
--- and sizes 4, of rows 2, of excitation and decode buffer 1, little-endian.
+-- Document 01: what a call refuses, answers and leaves in its lent buffers. Each buffer is a list of bytes; an element of the index has 8,
+-- of marks and sizes 4, of rows 2, of excitation and decode buffer 1, little-endian.
 use mathlib.Core.Bool.{Bool, false}
 use mathlib.Core.List.{List, [], _∷_}
 use mathlib.Core.Option.{Option, none, some}
@@ -54,7 +54,8 @@ lent index marks sizes rows excitation decoded =
 
 -- ---- what a call fills
 
--- 'A call also fills the sorted index, every mark made, and for the taken periods the sizes, the row .. and the excitation': the bytes, buffer by buffer
+-- 'A call also fills the sorted index, every mark made, and for the taken periods the sizes, the row .. and the excitation': the bytes,
+-- buffer by buffer
 unfoldable pub filled : Voice → Sheet → Settings → Buffers
 filled v s o =
     let ps = periodsTaken v s o in
@@ -110,7 +111,8 @@ fits v s o b = holds (needOf v s o) (lengthsOf b)
 
 -- ---- the call
 
--- what refuses a call apart from its buffers: 'A call itself opens the voice and reads the sheet so, then reports target ends .., then marks ..'
+-- what refuses a call apart from its buffers: 'A call itself opens the voice and reads the sheet so, then reports target ends .., then
+-- marks ..'
 unfoldable pub checkRefusal : List ℕ → List ℕ → Settings → Option Refusal
 checkRefusal file sheet o = orNext (openingRefusal file) (orNext (sheetRefusal sheet) (planOf (voiceOf file) (sheetOf sheet) o .refusal))
 

@@ -53,7 +53,8 @@ planBy ModifiedLpc v ss ts = modifiedPlan v (unitsOf v ss) ts
 
 -- 'Join none, or fewer than two segments, gives zero periods with no mark made'
 unfoldable pub planOf : Voice → Sheet → Settings → Plan
-planOf v s o = elim (ltb (length (s .segments)) 2) [ true ↦ emptyPlan | false ↦ planBy (o .join) v (folded (o .fold) (s .segments)) (s .targets) ]
+planOf v s o =
+    elim (ltb (length (s .segments)) 2) [ true ↦ emptyPlan | false ↦ planBy (o .join) v (folded (o .fold) (s .segments)) (s .targets) ]
 
 -- ---- the periods taken, and their samples
 

@@ -30,8 +30,9 @@ gaveCount (Given n) = 1
 gaveCount Done = 0
 gaveCount (Refused r) = 0
 
--- The plain machine 'holds the periods of samples .. and a count. A pull shows it only its slice: if all periods are counted, it says done; if the
--- slice is shorter than the next period, it refuses with 14; else it gives that period, writing its samples to the slice's front, ..
+-- The plain machine 'holds the periods of samples .. and a count. A pull shows it only its slice: if all periods are counted, it says
+-- done; if the slice is shorter than the next period, it refuses with 14; else it gives that period, writing its samples to the slice's
+-- front, ..
 unfoldable pub shows : List (List ℕ) → ℕ → List ℕ → Shown
 shows ps k d =
     let p = getD ps k [] in

@@ -33,8 +33,9 @@ lentOf sizes rows excitation = record { sizes = elements 4 sizes; rows = element
 abbrev pub allGiven : FilterState → Lent → Bool
 allGiven s l = eqb (s .period) (length (l .sizes))
 
--- 'A state is impossible if its order is above 32, its ring place above the order, its period or sample place past the sizes or the residual, or a
--- scale outside the header's limits' (the residual is the excitation lent); and where there is a next period, the coefficients do not end before its row does
+-- 'A state is impossible if its order is above 32, its ring place above the order, its period or sample place past the sizes or the
+-- residual, or a scale outside the header's limits' (the residual is the excitation lent); and where there is a next period, the
+-- coefficients do not end before its row does
 unfoldable pub possible : FilterState → Lent → Bool
 possible s l =
     every

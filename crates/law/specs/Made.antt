@@ -68,8 +68,8 @@ pub data PullsMade (b : LentBytes) : FilterState → List (List ℕ) → List Sh
       → PullsMade b (r .state) ds os
       → PullsMade b s (now samples ∷ ds) (record { answer = r .answer; slice = left } ∷ os)
 
--- The call c was made and answered that it is spoken, and pulls were made after it: the first gets the state that the call returned, all are
--- lent what it left 'just as far as the call filled them', by the summary that it returned.
+-- The call c was made and answered that it is spoken, and pulls were made after it: the first gets the state that the call returned, all
+-- are lent what it left 'just as far as the call filled them', by the summary that it returned.
 pub record MadeAfter (c : SpokenCall) (ds : List (List ℕ)) (os : List Shown) : Type 0 where
   pub returned : Planned
   pub left : Buffers

@@ -37,8 +37,8 @@ abbrev pub answerRead : ℤ → Answer
 answerRead (pos n) = Given n
 answerRead (negsuc k) = pick (eqb k 0) Done (pick (eqb k 13) (Refused ShortSlice) (Refused BadState))
 
--- Calls of `diphone_pull` one after the other, all lent the bytes b, and each a slice: the first gets a state's bytes, each other these bytes
--- as the last one left them. What a call answered, r, and what it left of the state, kept, and in its slice, left, is known by what
+-- Calls of `diphone_pull` one after the other, all lent the bytes b, and each a slice: the first gets a state's bytes, each other these
+-- bytes as the last one left them. What a call answered, r, and what it left of the state, kept, and in its slice, left, is known by what
 -- `diphone_pull` ensures.
 pub data PullsMadeInC (b : LentBytes) : List ℕ → List (List ℕ) → List Shown → Type 0 where
   none : {w : List ℕ} → PullsMadeInC b w [] []

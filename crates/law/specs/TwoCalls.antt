@@ -1,5 +1,5 @@
--- Two spoken calls of which the second is longer. The first voice has 2 frames and the entry `pau-aa`, the first sheet the segments `pau` and
--- `aa`; the second voice has a frame more, and the entry `aa-pau` before the other, and the second sheet has `pau` besides.
+-- Two spoken calls of which the second is longer. The first voice has 2 frames and the entry `pau-aa`, the first sheet the segments `pau`
+-- and `aa`; the second voice has a frame more, and the entry `aa-pau` before the other, and the second sheet has `pau` besides.
 use mathlib.Core.Path.{_≡_}
 use mathlib.Core.List.{List, [], _∷_, _++_}
 use Prim.Native.Nat.{ℕ}

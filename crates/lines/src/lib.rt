@@ -67,7 +67,10 @@ fn put_next(word: u16, out: &mut [u8], at: usize) -> usize
 // Samples of two bytes each, a blank before each.
 fn put_samples(samples: &[u8], out: &mut [u8], at: usize) -> usize
     requires { ⌜ at + 7 * (length (now samples) / 2) ≤ length (now out) ⌝ }
-    ensures { λ r. ⌜ lines.Puts (now (out .entry)) at (lines.samples (elements 2 (now (samples .entry)))) (now (out .exit)) r ⌝ }
+    ensures { λ r.
+        ⌜
+        lines.Puts (now (out .entry)) at (lines.samples (elements 2 (now (samples .entry)))) (now (out .exit)) r
+        ⌝ }
     ensures { λ r. ⌜ r ≤ at + 7 * (length (now (samples .entry)) / 2) ⌝ }
 {
     let mut end = at;
@@ -81,8 +84,14 @@ fn put_samples(samples: &[u8], out: &mut [u8], at: usize) -> usize
 
 // The line of a period: its number, its size, its samples.
 pub fn put_period(number: u32, samples: &[u8], out: &mut [u8], at: usize) -> usize
-    requires { ⌜ (number < 100000) × ((length (now samples) ≤ 8192) × (at + (7 * (length (now samples) / 2) + 12) ≤ length (now out))) ⌝ }
-    ensures { λ r. ⌜ lines.Puts (now (out .entry)) at (lines.period number (elements 2 (now (samples .entry)))) (now (out .exit)) r ⌝ }
+    requires { ⌜
+        (number < 100000) × ((length (now samples) ≤ 8192) ×
+        (at + (7 * (length (now samples) / 2) + 12) ≤ length (now out)))
+        ⌝ }
+    ensures { λ r.
+        ⌜
+        lines.Puts (now (out .entry)) at (lines.period number (elements 2 (now (samples .entry)))) (now (out .exit)) r
+        ⌝ }
     ensures { λ r. ⌜ r ≤ at + (7 * (length (now (samples .entry)) / 2) + 12) ⌝ }
 {
     let a = put_number(number, out, at);

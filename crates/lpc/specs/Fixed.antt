@@ -1,4 +1,5 @@
--- Document 01, 'Filters': the fixed filter. History and accumulator are words of 32 bits in two's complement: sums and products modulo 2 ^ 32.
+-- Document 01, 'Filters': the fixed filter. History and accumulator are words of 32 bits in two's complement: sums and products modulo 2 ^
+-- 32.
 use mathlib.Core.List.{List, [], _∷_, map}
 use Prim.Native.Nat.{ℕ, suc, _+_, _*_, _/_, _%_, _^_}
 use lib.IntN.{ℤ, pos, _+ℤ_, _*ℤ_}

@@ -11,9 +11,11 @@ use Rattle.lpc.specs.Filter.{Filter}
 
 -- 'a row value is q / 65535 × coeff_range in f64, rounded to f32, plus coeff_min in f32'
 unfoldable pub floatValue : Float → Float → ℕ → Float
-floatValue least range q = add binary32 (narrow (mul binary64 (div binary64 (ofInt binary64 (pos q)) (fin false 65535 (pos 0))) range)) least
+floatValue least range q =
+    add binary32 (narrow (mul binary64 (div binary64 (ofInt binary64 (pos q)) (fin false 65535 (pos 0))) range)) least
 
--- 'adds row value k times the history k + 1 back, k from 0 up; .. one f32 rounding per step': the product is rounded, then the sum; from k on
+-- 'adds row value k times the history k + 1 back, k from 0 up; .. one f32 rounding per step': the product is rounded, then the sum; from k
+-- on
 unfoldable pub floatSum : Float → List Float → (ℕ → Float) → ℕ → Float
 floatSum acc [] y k = acc
 floatSum acc (c ∷ cs) y k = floatSum (add binary32 acc (mul binary32 c (y k))) cs y (suc k)

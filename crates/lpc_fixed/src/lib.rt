@@ -44,7 +44,11 @@ fn sum(
     place: usize,
 ) -> u32
     requires { ⌜ (order ≤ 32) × (place ≤ order) × (last ≡ getD (now window) (place + order) 0) ⌝ }
-    ensures { λ r. ⌜ r ≡ summed fixedStep start (upto (λ k. getD (now (values .entry)) k 0) order) (λ k. getD (now (window .entry)) (place + order - k) 0) 0 ⌝ }
+    ensures { λ r.
+        ⌜
+        r ≡ summed fixedStep start (upto (λ k. getD (now (values .entry)) k 0) order)
+        (λ k. getD (now (window .entry)) (place + order - k) 0) 0
+        ⌝ }
 {
     if order == 0 {
         return start;
@@ -79,7 +83,11 @@ fn range_q(coeff_range: f32) -> i32
 // The values of a row, as words; zeros after them.
 fn row_values(min_q: i32, range_q: i32, row: &[u8]) -> [u32; 32]
     requires { ⌜ length (now row) ≤ 64 ⌝ }
-    ensures { λ r. ⌜ r ≡ over (upto (valueAt «min_q» «range_q» (now (row .entry))) (length (now (row .entry)) / 2)) (replicate 32 0) ⌝ }
+    ensures { λ r.
+        ⌜
+        r ≡ over (upto (valueAt «min_q» «range_q» (now (row .entry))) (length (now (row .entry)) / 2))
+        (replicate 32 0)
+        ⌝ }
 {
     let mut values = [0u32; 32];
     let mut k = 0usize;
@@ -104,7 +112,11 @@ fn next(
     place: usize,
 ) -> u32
     requires { ⌜ (order ≤ 32) × (place ≤ order) × (last ≡ getD (now window) (place + order) 0) ⌝ }
-    ensures { λ r. ⌜ r ≡ divided (summed fixedStep (low 32 (sampleOf byte *ℤ pos 16384)) (upto (λ k. getD (now (values .entry)) k 0) order) (λ k. getD (now (window .entry)) (place + order - k) 0) 0) ⌝ }
+    ensures { λ r.
+        ⌜
+        r ≡ divided (summed fixedStep (low 32 (sampleOf byte *ℤ pos 16384))
+        (upto (λ k. getD (now (values .entry)) k 0) order) (λ k. getD (now (window .entry)) (place + order - k) 0) 0)
+        ⌝ }
 {
     let sample = base::words::i32_to_word(ulaw::ulaw_to_i16(byte) as i32);
     let start = base::words::wrapping_mul(sample, LPC_SCALE);
@@ -135,7 +147,11 @@ pub fn resynthesise_period(
 ) -> FilterState
     requires { ⌜ Ready state (now row) (now excitation) (now samples) × (state .filter ≡ ResynthType.Fixed) ⌝ }
     ensures { λ r. ⌜ r ≡ advanced state (partOf (now (row .entry)) (now (excitation .entry))) ⌝ }
-    ensures { λ r. ⌜ now (samples .exit) ≡ over (flat (bytesOf 2) (spoken state (partOf (now (row .entry)) (now (excitation .entry))))) (now (samples .entry)) ⌝ }
+    ensures { λ r.
+        ⌜
+        now (samples .exit) ≡ over (flat (bytesOf 2)
+        (spoken state (partOf (now (row .entry)) (now (excitation .entry))))) (now (samples .entry))
+        ⌝ }
 {
     let order = state.order;
     let values = row_values(min_q(state.coeff_min), range_q(state.coeff_range), row);

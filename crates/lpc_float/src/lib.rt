@@ -36,7 +36,11 @@ fn sum(
     place: usize,
 ) -> f32
     requires { ⌜ (order ≤ 32) × (place ≤ order) × (last ≡ getD (now history) (placeBefore order place) nan) ⌝ }
-    ensures { λ r. ⌜ r ≡ summed floatStep start (upto (λ k. getD (now (values .entry)) k nan) order) (λ k. getD (now (history .entry)) (tap order place k) nan) 0 ⌝ }
+    ensures { λ r.
+        ⌜
+        r ≡ summed floatStep start (upto (λ k. getD (now (values .entry)) k nan) order)
+        (λ k. getD (now (history .entry)) (tap order place k) nan) 0
+        ⌝ }
 {
     let newest = lpc::place_before(order, place);
     if order == 0 {
@@ -56,7 +60,11 @@ fn sum(
 // The values of a row; zeros after them.
 fn row_values(coeff_min: f32, coeff_range: f32, row: &[u8]) -> [f32; 32]
     requires { ⌜ length (now row) ≤ 64 ⌝ }
-    ensures { λ r. ⌜ r ≡ over (upto (λ k. floatValue «coeff_min» «coeff_range» (u16At (now (row .entry)) k)) (length (now (row .entry)) / 2)) (replicate 32 zero32) ⌝ }
+    ensures { λ r.
+        ⌜
+        r ≡ over (upto (λ k. floatValue «coeff_min» «coeff_range» (u16At (now (row .entry)) k))
+        (length (now (row .entry)) / 2)) (replicate 32 zero32)
+        ⌝ }
 {
     let mut values = [0.0f32; 32];
     let mut k = 0usize;
@@ -78,7 +86,11 @@ fn next(
     place: usize,
 ) -> f32
     requires { ⌜ (order ≤ 32) × (place ≤ order) × (last ≡ getD (now history) (placeBefore order place) nan) ⌝ }
-    ensures { λ r. ⌜ r ≡ summed floatStep (ofInt binary32 (sampleOf byte)) (upto (λ k. getD (now (values .entry)) k nan) order) (λ k. getD (now (history .entry)) (tap order place k) nan) 0 ⌝ }
+    ensures { λ r.
+        ⌜
+        r ≡ summed floatStep (ofInt binary32 (sampleOf byte)) (upto (λ k. getD (now (values .entry)) k nan) order)
+        (λ k. getD (now (history .entry)) (tap order place k) nan) 0
+        ⌝ }
 {
     sum(
         ulaw::ulaw_to_i16(byte) as f32,
@@ -117,7 +129,11 @@ pub fn resynthesise_period(
 ) -> FilterState
     requires { ⌜ Ready state (now row) (now excitation) (now samples) × (state .filter ≡ ResynthType.Float) ⌝ }
     ensures { λ r. ⌜ r ≡ advanced state (partOf (now (row .entry)) (now (excitation .entry))) ⌝ }
-    ensures { λ r. ⌜ now (samples .exit) ≡ over (flat (bytesOf 2) (spoken state (partOf (now (row .entry)) (now (excitation .entry))))) (now (samples .entry)) ⌝ }
+    ensures { λ r.
+        ⌜
+        now (samples .exit) ≡ over (flat (bytesOf 2)
+        (spoken state (partOf (now (row .entry)) (now (excitation .entry))))) (now (samples .entry))
+        ⌝ }
 {
     let order = state.order;
     let values = row_values(state.coeff_min, state.coeff_range, row);

@@ -17,7 +17,11 @@ pub fn resynthesise_period(
 ) -> FilterState
     requires { ⌜ Ready state (now row) (now excitation) (now samples) ⌝ }
     ensures { λ r. ⌜ r ≡ advanced state (partOf (now (row .entry)) (now (excitation .entry))) ⌝ }
-    ensures { λ r. ⌜ now (samples .exit) ≡ over (flat (bytesOf 2) (spoken state (partOf (now (row .entry)) (now (excitation .entry))))) (now (samples .entry)) ⌝ }
+    ensures { λ r.
+        ⌜
+        now (samples .exit) ≡ over (flat (bytesOf 2)
+        (spoken state (partOf (now (row .entry)) (now (excitation .entry))))) (now (samples .entry))
+        ⌝ }
 {
     let filter = state.filter;
     match filter {

@@ -67,7 +67,8 @@ abbrev pub unitAnswered : Option Refusal → ℕ → ℕ → UnitMarks
 unitAnswered none place left = unit.To place left
 unitAnswered (some r) place left = unit.Refused r
 
--- n periods from p on, the first of which begins at a place, with `left` marks allowed: the refusal, or the place after them and the marks still allowed
+-- n periods from p on, the first of which begins at a place, with `left` marks allowed: the refusal, or the place after them and the marks
+-- still allowed
 unfoldable pub unitMarks : Voice → ℕ → ℕ → ℕ → ℕ → UnitMarks
 unitMarks v place p n left = unitAnswered (markRefusal left (marksOfPeriods v place p n)) (place + samplesFrom v p n) (left - n)
 

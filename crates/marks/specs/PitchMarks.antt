@@ -100,7 +100,11 @@ unfoldable pub climbTo : Float → Stage → Float → Float → Climb
 climbTo rate s position f0 =
     elim (ne (s .time) position && lt (s .position) position) [
       | false ↦ ends none (s .time) (s .left)
-      | true ↦ elim (isFinite (slopeOf s position f0)) [ false ↦ ends (some BadSlope) (s .time) (s .left) | true ↦ climb (contourTo rate s position f0) (s .left) (s .time) ]
+      | true ↦
+          elim (isFinite (slopeOf s position f0)) [
+            | false ↦ ends (some BadSlope) (s .time) (s .left)
+            | true ↦ climb (contourTo rate s position f0) (s .left) (s .time)
+          ]
     ]
 
 abbrev pub stageAfter : Climb → Float → Float → Stage

@@ -30,7 +30,8 @@ unfoldable pub twoSpoken : FilterState → Part → Part → List ℕ
 twoSpoken s p q = spoken s p ++ spoken (advanced s p) q
 
 abbrev pub twoPeriods : ℕ → ℕ → Float32 → Float32 → List ℕ → ℕ → List ℕ → List ℕ
-twoPeriods filter order least range rows n e = twoSpoken (freshState (filterOf filter) order least range) (firstOf order rows e n) (secondOf order rows e n)
+twoPeriods filter order least range rows n e =
+    twoSpoken (freshState (filterOf filter) order least range) (firstOf order rows e n) (secondOf order rows e n)
 
 -- what is lent fits: a row for each period, and room for every sample
 abbrev pub fits : ℕ → List ℕ → ℕ → List ℕ → List ℕ → Bool

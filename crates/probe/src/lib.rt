@@ -161,7 +161,12 @@ fn two_periods(
     samples: &mut [u8],
 )
     requires { ⌜ Lent order (now rows) first (now excitation) (now samples) ⌝ }
-    ensures { λ _. ⌜ now (samples .exit) ≡ over (flat (bytesOf 2) (twoPeriods filter order «coeff_min» «coeff_range» (now (rows .entry)) first (now (excitation .entry)))) (now (samples .entry)) ⌝ }
+    ensures { λ _.
+        ⌜
+        now (samples .exit) ≡ over (flat (bytesOf 2)
+        (twoPeriods filter order «coeff_min» «coeff_range» (now (rows .entry)) first (now (excitation .entry))))
+        (now (samples .entry))
+        ⌝ }
 {
     let state = FilterState::fresh(filter_of(filter), order, coeff_min, coeff_range);
     let middle = 2 * order;
@@ -197,7 +202,8 @@ pub extern "C" fn probe_resynthesise(
         ⌜
         now (samples .exit) ≡
         pick (fits order (now (rows .entry)) first (now (excitation .entry)) (now (samples .entry)))
-        (over (flat (bytesOf 2) (twoPeriods filter order «coeff_min» «coeff_range» (now (rows .entry)) first (now (excitation .entry)))) (now (samples .entry)))
+        (over (flat (bytesOf 2) (twoPeriods filter order «coeff_min» «coeff_range» (now (rows .entry)) first
+        (now (excitation .entry)))) (now (samples .entry)))
         (now (samples .entry))
         ⌝ }
 {

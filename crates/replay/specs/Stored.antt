@@ -1,5 +1,5 @@
--- The stored calls: one after the other, each a head of 20 bytes, then a voice, a sheet and the text that the Rust's answer makes. The head's
--- first byte is 0 where no voice follows, but that of the call before is used.
+-- The stored calls: one after the other, each a head of 20 bytes, then a voice, a sheet and the text that the Rust's answer makes. The
+-- head's first byte is 0 where no voice follows, but that of the call before is used.
 use mathlib.Core.Path.{_≡_}
 use mathlib.Core.Bool.{Bool, true, _&&_}
 use mathlib.Core.List.{List, [], _∷_}

@@ -22,7 +22,14 @@ firstWith t false = pick (eqb (t .wrong) 0) (t .calls + 1) (t .first)
 
 -- one more call, by the kind and the periods of its stored text and whether it agrees
 unfoldable pub counted : Tally → ℕ → ℕ → Bool → Tally
-counted t kind periods agrees = record { calls = t .calls + 1; wrong = wrongWith t agrees; first = firstWith t agrees; kinds = set (t .kinds) kind (getD (t .kinds) kind 0 + 1); periods = t .periods + periods }
+counted t kind periods agrees =
+    record {
+      calls = t .calls + 1;
+      wrong = wrongWith t agrees;
+      first = firstWith t agrees;
+      kinds = set (t .kinds) kind (getD (t .kinds) kind 0 + 1);
+      periods = t .periods + periods;
+    }
 
 -- no number of a tally is above its calls, but that a call has up to 65,536 periods
 pub record Sound (t : Tally) : Type 0 where

@@ -77,7 +77,17 @@ impl Tally {
 
 // ---- the head of a stored call
 
-const LIMITS: [usize; 9] = [transcript::VOICE_LIMIT, transcript::SHEET_LIMIT, 8192, 4096, 4096, 2048, 4096, 1024, 41000];
+const LIMITS: [usize; 9] = [
+    transcript::VOICE_LIMIT,
+    transcript::SHEET_LIMIT,
+    8192,
+    4096,
+    4096,
+    2048,
+    4096,
+    1024,
+    41000,
+];
 
 // Whether no length of a head is above its limit.
 fn fits(head: &[u8]) -> bool
@@ -107,7 +117,11 @@ fn length_at(head: &[u8], i: usize) -> usize
 // Makes the call of a head, a voice and a sheet, and puts its text to the front of `out`.
 fn put_text(head: &[u8], voice: &[u8], sheet: &[u8], out: &mut [u8]) -> usize
     requires { ⌜ stored.Fits (now head) × (41000 ≤ length (now out)) ⌝ }
-    ensures { λ r. ⌜ Puts (now (out .entry)) 0 (stored.textOf (now (head .entry)) (now (voice .entry)) (now (sheet .entry))) (now (out .exit)) r ⌝ }
+    ensures { λ r.
+        ⌜
+        Puts (now (out .entry)) 0 (stored.textOf (now (head .entry)) (now (voice .entry)) (now (sheet .entry)))
+        (now (out .exit)) r
+        ⌝ }
     ensures { λ r. ⌜ r ≤ 41000 ⌝ }
 {
     let mut index = [0u8; 8192];
@@ -139,7 +153,10 @@ fn put_text(head: &[u8], voice: &[u8], sheet: &[u8], out: &mut [u8]) -> usize
 // Whether a stored call's text is that of the call.
 fn agrees(head: &[u8], voice: &[u8], sheet: &[u8], want: &[u8]) -> bool
     requires { ⌜ stored.Fits (now head) ⌝ }
-    ensures { λ r. ⌜ r ≡ stored.agrees (now (head .entry)) (now (voice .entry)) (now (sheet .entry)) (now (want .entry)) ⌝ }
+    ensures { λ r.
+        ⌜
+        r ≡ stored.agrees (now (head .entry)) (now (voice .entry)) (now (sheet .entry)) (now (want .entry))
+        ⌝ }
 {
     let mut out = io::large_buffer();
     let n = put_text(head, voice, sheet, &mut out);
@@ -221,7 +238,11 @@ fn read_part(fd: i32, buf: &mut [u8], n: usize) -> bool
 // A stored call, made and compared.
 fn compared(head: &[u8], voice: &[u8], sheet: &[u8], want: &[u8]) -> Found
     requires { ⌜ stored.Fits (now head) × ((length (now voice) ≤ 32768) × (length (now want) ≤ 41000)) ⌝ }
-    ensures { λ r. ⌜ (r ≡ stored.compared (now (head .entry)) (now (voice .entry)) (now (sheet .entry)) (now (want .entry))) × stored.Sound r ⌝ }
+    ensures { λ r.
+        ⌜
+        (r ≡ stored.compared (now (head .entry)) (now (voice .entry)) (now (sheet .entry)) (now (want .entry))) ×
+        stored.Sound r
+        ⌝ }
 {
     Found::Call(
         voice.len(),

@@ -11,7 +11,10 @@ use refusal::Refusal;
 // The program's text for a voice file and a sheet, put to the front of `out`.
 fn put_text(voice: &[u8], sheet: &[u8], out: &mut [u8]) -> usize
     requires { ⌜ 41000 ≤ length (now out) ⌝ }
-    ensures { λ r. ⌜ Puts (now (out .entry)) 0 (speaks.textOf (now (voice .entry)) (now (sheet .entry))) (now (out .exit)) r ⌝ }
+    ensures { λ r.
+        ⌜
+        Puts (now (out .entry)) 0 (speaks.textOf (now (voice .entry)) (now (sheet .entry))) (now (out .exit)) r
+        ⌝ }
     ensures { λ r. ⌜ Counts r (now (out .exit)) ⌝ }
 {
     if voice.len() > transcript::VOICE_LIMIT {

@@ -106,7 +106,10 @@ fn space_at(s: &[u8], at: usize) -> usize
 // Where the white space that begins at a place ends.
 pub fn skip(s: &[u8], from: usize) -> usize
     requires { ⌜ from ≤ length (now s) ⌝ }
-    ensures { λ r. ⌜ (drop r (now (s .entry)) ≡ trims.trimStart (drop from (now (s .entry)))) × (r ≤ length (now (s .entry))) ⌝ }
+    ensures { λ r.
+        ⌜
+        (drop r (now (s .entry)) ≡ trims.trimStart (drop from (now (s .entry)))) × (r ≤ length (now (s .entry)))
+        ⌝ }
 {
     let mut at = from;
     let mut n = space_at(s, at);

@@ -61,7 +61,8 @@ pub record Fresh (s : FilterState) (l : Lent) : Type 0 where
 
 -- what a call filled of its buffers
 abbrev pub front : Summary → List ℕ → List ℕ → List ℕ → Lent
-front m sizes rows excitation = lentOf (take (4 * m .periods) sizes) (take (2 * (m .periods * m .order)) rows) (take (m .samples) excitation)
+front m sizes rows excitation =
+    lentOf (take (4 * m .periods) sizes) (take (2 * (m .periods * m .order)) rows) (take (m .samples) excitation)
 
 -- a call that was not refused left this summary, state and buffers
 pub record Spoke (m : Summary) (s : FilterState) (sizes rows excitation : List ℕ) : Type 0 where

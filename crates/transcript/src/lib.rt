@@ -19,6 +19,7 @@ use lpc::ResynthType;
 
 // The limits of document 01's program: the bytes of its voice file and of its sheet.
 pub const VOICE_LIMIT: usize = 32768;
+
 pub const SHEET_LIMIT: usize = 4096;
 
 // The settings of document 01's program.
@@ -54,7 +55,12 @@ fn put_periods(
 ) -> usize
     requires { ⌜ text.Fresh state (lentOf (now sizes) (now rows) (now excitation)) ⌝ }
     requires { ⌜ (length (now sizes) ≤ 4096) × ((length (now excitation) ≤ 4096) × (at + 40960 ≤ length (now out))) ⌝ }
-    ensures { λ r. ⌜ Puts (now (out .entry)) at (lines.periods (text.periodsFor state (lentOf (now (sizes .entry)) (now (rows .entry)) (now (excitation .entry))))) (now (out .exit)) r ⌝ }
+    ensures { λ r.
+        ⌜
+        Puts (now (out .entry)) at (lines.periods
+        (text.periodsFor state (lentOf (now (sizes .entry)) (now (rows .entry)) (now (excitation .entry)))))
+        (now (out .exit)) r
+        ⌝ }
     ensures { λ r. ⌜ r ≤ at + 40960 ⌝ }
 {
     let mut samples = [0u8; 8192];
@@ -84,7 +90,11 @@ fn put_spoken(
 ) -> usize
     requires { ⌜ text.Spoke m state (now sizes) (now rows) (now excitation) ⌝ }
     requires { ⌜ 41000 ≤ length (now out) ⌝ }
-    ensures { λ r. ⌜ Puts (now (out .entry)) 0 (text.spokenBy m state (now (sizes .entry)) (now (rows .entry)) (now (excitation .entry))) (now (out .exit)) r ⌝ }
+    ensures { λ r.
+        ⌜
+        Puts (now (out .entry)) 0 (text.spokenBy m state (now (sizes .entry)) (now (rows .entry))
+        (now (excitation .entry))) (now (out .exit)) r
+        ⌝ }
     ensures { λ r. ⌜ r ≤ 41000 ⌝ }
 {
     let at = lines::put_summary(m.rate as u32, m.periods as u32, m.samples as u32, out);
@@ -112,15 +122,18 @@ pub fn put_call(
         ⌜
         Puts (now (out .entry)) 0
         (text.callText (now (voice .entry)) (now (sheet .entry)) settings
-        (lent (now (index .entry)) (now (marks .entry)) (now (sizes .entry)) (now (rows .entry)) (now (excitation .entry)) (now (decoded .entry))))
+        (lent (now (index .entry)) (now (marks .entry)) (now (sizes .entry)) (now (rows .entry))
+        (now (excitation .entry)) (now (decoded .entry))))
         (now (out .exit)) r
         ⌝ }
     ensures { λ r. ⌜ r ≤ 41000 ⌝ }
     ensures { λ _.
         ⌜
-        lent (now (index .exit)) (now (marks .exit)) (now (sizes .exit)) (now (rows .exit)) (now (excitation .exit)) (now (decoded .exit)) ≡
+        lent (now (index .exit)) (now (marks .exit)) (now (sizes .exit)) (now (rows .exit)) (now (excitation .exit))
+        (now (decoded .exit)) ≡
         buffersAfter (now (voice .entry)) (now (sheet .entry)) settings
-        (lent (now (index .entry)) (now (marks .entry)) (now (sizes .entry)) (now (rows .entry)) (now (excitation .entry)) (now (decoded .entry)))
+        (lent (now (index .entry)) (now (marks .entry)) (now (sizes .entry)) (now (rows .entry))
+        (now (excitation .entry)) (now (decoded .entry)))
         ⌝ }
 {
     let planned = diphone::plan(

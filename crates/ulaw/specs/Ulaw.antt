@@ -1,8 +1,8 @@
--- The mu-law of ITU-T G.711, Tables 2a and 2b: for each sign 8 segments of 16 intervals, on uniform PCM of 14 bits. A 16-bit sample is 4 times the
--- 14-bit value. `m` is the tables' number n of the decision value x and of the quantised value y, 0 to 127; the character signal is 255 - n for a
--- positive value and 127 - n for a negative one. What G.711 leaves open is chosen as in the Rust: a sample on a decision value is in the outer
--- interval, a magnitude above the virtual x of 128 is in the last one, a sample is compared at 16 bits, and the optional replacement of the
--- all-zero character signal is not made.
+-- The mu-law of ITU-T G.711, Tables 2a and 2b: for each sign 8 segments of 16 intervals, on uniform PCM of 14 bits. A 16-bit sample is 4
+-- times the 14-bit value. `m` is the tables' number n of the decision value x and of the quantised value y, 0 to 127; the character signal
+-- is 255 - n for a positive value and 127 - n for a negative one. What G.711 leaves open is chosen as in the Rust: a sample on a decision
+-- value is in the outer interval, a magnitude above the virtual x of 128 is in the last one, a sample is compared at 16 bits, and the
+-- optional replacement of the all-zero character signal is not made.
 use Prim.Native.Nat.{ℕ, zero, suc, _+_, _-_, _*_, _/_, _%_, _^_}
 use lib.Dec.{leb, ltb}
 use lib.IntN.{ℤ, pos, negℤ, natAbs}

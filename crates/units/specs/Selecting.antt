@@ -64,7 +64,8 @@ orElse (some e) d = e
 
 -- the entry found by a name that the pair tries: 'try `left_-_right`; then `left-right`'
 abbrev pub triedEntry : Voice → List SegmentRead → SegmentRead → SegmentRead → Option Entry
-triedEntry v ss left right = orNext (lookup (firstTried ss left right) (v .entries)) (lookup (plainName (left .name) (right .name)) (v .entries))
+triedEntry v ss left right =
+    orNext (lookup (firstTried ss left right) (v .entries)) (lookup (plainName (left .name) (right .name)) (v .entries))
 
 -- 'then the sorted first entry'
 unfoldable pub entryOf : Voice → List SegmentRead → SegmentRead → SegmentRead → Entry

@@ -41,9 +41,11 @@ pub fn put_pair(left: &[u8], right: &[u8], cluster: bool, fold: bool, buf: &mut 
     requires { ⌜ (length (now left) ≤ 32) × ((length (now right) ≤ 32) × (67 ≤ length (now buf))) ⌝ }
     ensures { λ r.
         ⌜
-        ((r ≡ length (pairName cluster (foldedName fold (now (left .entry))) (foldedName fold (now (right .entry))))) × (r ≤ 67)) ×
+        ((r ≡ length (pairName cluster (foldedName fold (now (left .entry))) (foldedName fold (now (right .entry)))))
+        × (r ≤ 67)) ×
         (now (buf .exit) ≡
-        over (pairName cluster (foldedName fold (now (left .entry))) (foldedName fold (now (right .entry)))) (now (buf .entry)))
+        over (pairName cluster (foldedName fold (now (left .entry))) (foldedName fold (now (right .entry))))
+        (now (buf .entry)))
         ⌝ }
 {
     put_name(left, fold, buf);

@@ -102,7 +102,8 @@ fn find_pair(
         ⌜
         r ≡ foundOf
         (voices.lookup
-        (selecting.pairName cluster (foldedName (by .fold) (now (left .entry))) (foldedName (by .fold) (now (right .entry))))
+        (selecting.pairName cluster (foldedName (by .fold) (now (left .entry)))
+        (foldedName (by .fold) (now (right .entry))))
         (voices.voiceOf (now (file .entry)) .entries))
         ⌝ }
 {
@@ -119,7 +120,8 @@ fn select_plain(file: &[u8], index: &[u8], by: Selection, left: &[u8], right: &[
     ensures { λ r.
         ⌜
         r ≡ periodsOf
-        (selecting.plainEntry (voices.voiceOf (now (file .entry))) (foldedName (by .fold) (now (left .entry))) (foldedName (by .fold) (now (right .entry))))
+        (selecting.plainEntry (voices.voiceOf (now (file .entry))) (foldedName (by .fold) (now (left .entry)))
+        (foldedName (by .fold) (now (right .entry))))
         ⌝ }
 {
     match find_pair(file, index, by, left, right, false) {

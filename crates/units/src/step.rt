@@ -31,7 +31,9 @@ pub fn next_units(
         (Walking (now sheet) (by .places .segments .count) walk × (0 < walk .remaining))))
         ⌝ }
     ensures { λ r.
-        ⌜ StepsPair (now (file .entry)) (by .voice) (by .fold) (now (sheet .entry)) (by .places .segments .count) walk r ⌝ }
+        ⌜
+        StepsPair (now (file .entry)) (by .voice) (by .fold) (now (sheet .entry)) (by .places .segments .count) walk r
+        ⌝ }
 {
     let segments = by.places.segments;
     let after = super::walk::next_pair(sheet, segments.count, walk);
@@ -84,7 +86,9 @@ pub fn next_unit(file: &[u8], index: &[u8], sheet: &[u8], by: Selection, walk: U
         (UnitWalking (by .voice .header .frames) (now sheet) (by .places .segments .count) walk × (0 < manyLeft walk)))
         ⌝ }
     ensures { λ r.
-        ⌜ StepsUnit (now (file .entry)) (by .voice) (by .fold) (now (sheet .entry)) (by .places .segments .count) walk r ⌝ }
+        ⌜
+        StepsUnit (now (file .entry)) (by .voice) (by .fold) (now (sheet .entry)) (by .places .segments .count) walk r
+        ⌝ }
 {
     let pairs = walk.pairs;
     let second = walk.second;

@@ -16,7 +16,12 @@ one false = record { compared = 1; wrong = 1; first = 0 }
 
 -- two tallies, one after the other; `first` is how many agree before the first that does not
 unfoldable pub joined : Tally → Tally → Tally
-joined s t = record { compared = s .compared + t .compared; wrong = s .wrong + t .wrong; first = pick (eqb (s .wrong) 0) (s .compared + t .first) (s .first) }
+joined s t =
+    record {
+      compared = s .compared + t .compared;
+      wrong = s .wrong + t .wrong;
+      first = pick (eqb (s .wrong) 0) (s .compared + t .first) (s .first);
+    }
 
 -- the tallies f 0, f 1, .. f (n - 1), one after the other
 unfoldable pub allOf : (ℕ → Tally) → ℕ → Tally

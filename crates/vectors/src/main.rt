@@ -163,7 +163,8 @@ fn samples(packed: &[u8], words: &[u8]) -> Tally
     requires { ⌜ (length (now packed) ≤ 65536) × (4 * length (now packed) ≤ length (now words)) ⌝ }
     ensures { λ r.
         ⌜
-        (r ≡ tally.allOf (vector.sample (now (packed .entry)) (now (words .entry))) (2 * length (now (packed .entry)))) ×
+        (r ≡ tally.allOf (vector.sample (now (packed .entry)) (now (words .entry)))
+        (2 * length (now (packed .entry)))) ×
         tally.Within r 131072
         ⌝ }
 {
@@ -183,7 +184,10 @@ fn samples(packed: &[u8], words: &[u8]) -> Tally
 // The first n bytes of two lists.
 fn bytes(got: &[u8], want: &[u8], n: usize) -> Tally
     requires { ⌜ (n ≤ 131072) × ((n ≤ length (now got)) × (n ≤ length (now want))) ⌝ }
-    ensures { λ r. ⌜ (r ≡ tally.allOf (vector.byte (now (got .entry)) (now (want .entry))) n) × tally.Within r 131072 ⌝ }
+    ensures { λ r.
+        ⌜
+        (r ≡ tally.allOf (vector.byte (now (got .entry)) (now (want .entry))) n) × tally.Within r 131072
+        ⌝ }
 {
     let mut t = Tally::none();
     let mut k = 0;
@@ -196,8 +200,14 @@ fn bytes(got: &[u8], want: &[u8], n: usize) -> Tally
 
 // A period: its samples, then its mu-law bytes.
 fn period(packed: &[u8], words: &[u8], want: &[u8]) -> Tally
-    requires { ⌜ (length (now packed) ≤ 65536) × ((4 * length (now packed) ≤ length (now words)) × (2 * length (now packed) ≤ length (now want))) ⌝ }
-    ensures { λ r. ⌜ (r ≡ vector.period (now (packed .entry)) (now (words .entry)) (now (want .entry))) × tally.Within r 262144 ⌝ }
+    requires { ⌜
+        (length (now packed) ≤ 65536) × ((4 * length (now packed) ≤ length (now words)) ×
+        (2 * length (now packed) ≤ length (now want)))
+        ⌝ }
+    ensures { λ r.
+        ⌜
+        (r ≡ vector.period (now (packed .entry)) (now (words .entry)) (now (want .entry))) × tally.Within r 262144
+        ⌝ }
 {
     let mut decoded = [0u8; 131072];
     adpcm::decode_adpcm(packed, &mut decoded);
