@@ -1,4 +1,4 @@
--- How long the words of the delays and signals are, by the Recommendation's list of signals, and what one code gives.
+-- Inner: How long the words of the delays and signals are, by the Recommendation's list of signals, and what one code gives.
 use mathlib.Core.Path.{_≡_}
 use Prim.Native.Nat.{ℕ, _<_}
 use Rattle.ulaw.specs.Ulaw.{ulawOf}

@@ -1,4 +1,4 @@
--- How long the speed control's words are, by the Recommendation's list of signals.
+-- Inner: How long the speed control's words are, by the Recommendation's list of signals.
 use Prim.Native.Nat.{_<_}
 use Rattle.adpcm_scale.specs.declared.Speed.{Speed}
 

@@ -1,4 +1,4 @@
--- Lists with the same elements.
+-- Inner: Lists with the same elements.
 use mathlib.Core.List.{List, _∷_}
 
 -- the same elements in another order

@@ -1,4 +1,4 @@
--- A test over a whole table, and over the first numbers.
+-- Inner: A test over a whole table, and over the first numbers.
 use mathlib.Core.Bool.{Bool, true, false}
 use mathlib.Core.List.{List, [], _∷_}
 use Prim.Native.Nat.{ℕ, zero, suc}

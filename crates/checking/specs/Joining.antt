@@ -1,4 +1,4 @@
--- What the check of a join's units and marks finds.
+-- Inner: What the check of a join's units and marks finds.
 use mathlib.Core.Path.{_≡_}
 use mathlib.Core.List.{List}
 use mathlib.Core.Option.{none, some}

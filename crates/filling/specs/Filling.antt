@@ -1,4 +1,4 @@
--- What is asked of a call whose buffers are filled, and what is left in them.
+-- Inner: What is asked of a call whose buffers are filled, and what is left in them.
 use mathlib.Core.Path.{_≡_}
 use mathlib.Core.Bool.{Bool, true, false}
 use mathlib.Core.List.{List}

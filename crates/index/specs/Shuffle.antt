@@ -1,4 +1,4 @@
--- An index that has every place once, in any order.
+-- Inner: An index that has every place once, in any order.
 use mathlib.Core.Path.{_≡_}
 use mathlib.Core.List.{List}
 use Prim.Native.Nat.{ℕ, _-_}

@@ -1,4 +1,4 @@
--- What a pull has tested before it gives a period.
+-- Inner: What a pull has tested before it gives a period.
 use mathlib.Core.Path.{_≡_}
 use mathlib.Core.List.{List}
 use Prim.Native.Nat.{ℕ, _+_, _*_, _^_, _≤_, _<_}

@@ -1,4 +1,4 @@
--- The sum over a row, as code makes it.
+-- Inner: The sum over a row, as code makes it.
 use mathlib.Core.List.{List, [], _∷_}
 use Prim.Native.Nat.{ℕ, suc, _+_, _*_, _%_, _^_}
 use lib.Ieee.{Float, binary32, add, mul}

@@ -1,4 +1,4 @@
--- The values of a row, as words.
+-- Inner: The values of a row, as words.
 use mathlib.Core.List.{List}
 use Prim.Native.Nat.{ℕ}
 use lib.IntN.{ℤ}

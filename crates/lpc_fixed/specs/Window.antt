@@ -1,4 +1,4 @@
--- The ring kept twice, one copy after the other.
+-- Inner: The ring kept twice, one copy after the other.
 use mathlib.Core.Path.{_≡_}
 use mathlib.Core.List.{List}
 use Prim.Native.Nat.{ℕ, _+_, _<_}

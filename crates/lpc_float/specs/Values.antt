@@ -1,4 +1,4 @@
--- The zero that stands after a row's values.
+-- Inner: The zero that stands after a row's values.
 use lib.Ieee.{Float, fin}
 use lib.IntN.{pos}
 use mathlib.Core.Bool.{false}

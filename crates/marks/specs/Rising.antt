@@ -1,4 +1,4 @@
--- Marks that do not fall: a taken size, a mark less the one before it, loses nothing.
+-- Inner: Marks that do not fall: a taken size, a mark less the one before it, loses nothing.
 use mathlib.Core.List.{List, [], _∷_}
 use Prim.Native.Nat.{ℕ, _≤_}
 

@@ -1,4 +1,4 @@
--- The making of pitch marks one at a time: what is still to come from where it stands.
+-- Inner: The making of pitch marks one at a time: what is still to come from where it stands.
 use mathlib.Core.Path.{_≡_}
 use mathlib.Core.Bool.{Bool, true, false, _&&_}
 use mathlib.Core.List.{List, [], _∷_}

@@ -1,4 +1,4 @@
--- The words of a text, each followed by a space.
+-- Inner: The words of a text, each followed by a space.
 use mathlib.Core.Bool.{true, false}
 use mathlib.Core.List.{List, [], _∷_, _++_}
 use Prim.Native.Nat.{ℕ}

@@ -1,4 +1,4 @@
--- A checked call's buffers and its summary.
+-- Inner: A checked call's buffers and its summary.
 use Prim.Native.Nat.{ℕ}
 use Rattle.call.specs.declared.Need.{Need}
 use Rattle.call.specs.declared.Summary.{Summary}

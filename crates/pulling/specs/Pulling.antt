@@ -1,4 +1,4 @@
--- The next period of a pull, by the bytes lent.
+-- Inner: The next period of a pull, by the bytes lent.
 use mathlib.Core.List.{List}
 use Prim.Native.Nat.{ℕ, _+_, _*_, _^_, _≤_, _<_}
 use Rattle.base.specs.Lists.{part}

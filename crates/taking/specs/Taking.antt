@@ -1,4 +1,4 @@
--- Document 01, 'Selecting and marking': what taking a unit's marks asks, and what it leaves in the buffers.
+-- Inner: Document 01, 'Selecting and marking': what taking a unit's marks asks, and what it leaves in the buffers.
 use mathlib.Core.Path.{_≡_}
 use mathlib.Core.List.{List}
 use Prim.Native.Nat.{ℕ, _+_, _*_, _≤_, _<_}

@@ -1,4 +1,4 @@
--- What a selection asks of its voice, its index and its segments.
+-- Inner: What a selection asks of its voice, its index and its segments.
 use mathlib.Core.Path.{_≡_}
 use mathlib.Core.Bool.{true}
 use mathlib.Core.List.{List}

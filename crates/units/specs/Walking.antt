@@ -1,4 +1,4 @@
--- A walk over the adjacent pairs of a sheet's segments.
+-- Inner: A walk over the adjacent pairs of a sheet's segments.
 use mathlib.Core.Path.{_≡_}
 use mathlib.Core.Bool.{Bool, true, false}
 use mathlib.Core.List.{List, [], _∷_, _++_}
