@@ -14,8 +14,8 @@ use Rattle.marks.specs.NaturalMarks.{periodCount}
 abbrev pub f32Of : ℕ → Float
 f32Of n = ofInt binary32 (pos n)
 
--- of n periods from p on, the first of which starts at `start`: 'the unit's first whose start is nearer the place than its end, else last minus 1,
--- at least 0. Nearness is strict: a tie moves on.'
+-- of n periods from p on, the first of which starts at `start`: 'the unit's first whose start is nearer the place than its end, else last
+-- minus 1, at least 0. Nearness is strict: a tie moves on.'
 unfoldable pub nearestFrom : Voice → Float → Float → ℕ → ℕ → ℕ
 nearestFrom v place start p zero = p - 1
 nearestFrom v place start p (suc n) =
@@ -27,7 +27,8 @@ nearestPeriod v u place = nearestFrom v place (fin false 0 (pos 0)) (u .«first_
 
 -- 'unit samples / span; span is the target end less that of the unit before (0 at first), at least 1'
 unfoldable pub paceOf : Voice → Unit → ℕ → Float
-paceOf v u endBefore = div binary32 (f32Of (samplesFrom v (u .«first_period») (periodCount u))) (f32Of (max (u .«target_end» - endBefore) 1))
+paceOf v u endBefore =
+    div binary32 (f32Of (samplesFrom v (u .«first_period») (periodCount u))) (f32Of (max (u .«target_end» - endBefore) 1))
 
 -- 'the place in a unit .. after each taken size grows by size × (unit samples / span)'
 unfoldable pub placeAfterSize : Float → Float → ℕ → Float

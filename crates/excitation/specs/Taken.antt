@@ -15,7 +15,8 @@ use Rattle.excitation.specs.Source.{decodedBy, sourceOf, centred}
 use Rattle.excitation.specs.Nearest.{nearestPeriod, paceOf, placeAfterSize}
 use Rattle.excitation.specs.Shares.{Share, shares}
 
--- a taken period: the number of the voice's period from 0, 'its mark less the mark before it', the row of order values q as stored, and its window of the excitation
+-- a taken period: the number of the voice's period from 0, 'its mark less the mark before it', the row of order values q as stored, and
+-- its window of the excitation
 pub record Period : Type 0 where
   pub number : ℕ
   pub size : ℕ

@@ -95,7 +95,8 @@ takenFrom v end mark us ms = flat (periodsOfShare v) (sharesFrom end mark us ms)
 
 -- those that the units take of the stored marks
 abbrev pub unitsTake : Bool → List ℕ → List ℕ → Selection → List ℕ → List Period
-unitsTake natural file sheet by marks = takenFrom (voiceOf file) 0 0 (joinUnits natural (voiceOf file) 0 (selected file sheet by)) (elements 4 marks)
+unitsTake natural file sheet by marks =
+    takenFrom (voiceOf file) 0 0 (joinUnits natural (voiceOf file) 0 (selected file sheet by)) (elements 4 marks)
 
 -- there are units, no target end is above the limit, the stored marks do not fall, and there is room for the periods
 pub record CanTakeUnits (natural : Bool) (file index sheet : List ℕ) (by : Selection) (marks : List ℕ) (b : PeriodBuffers) : Type 0 where

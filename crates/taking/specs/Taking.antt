@@ -54,8 +54,8 @@ pub record CanTake (file : List ℕ) (d : DiphoneVoice) (u : Unit) (endBefore : 
   pub decodedRoom : decodeRoom (voiceOf file) ≤ length decoded
   pub held : Held (voiceOf file) decoded (at .front)
 
--- How far the periods are taken then, and the buffers before and after: 'for the taken periods the sizes, the row of order values q each as stored,
--- and the excitation', and 'Each taken period of size above 0 is decoded to its front, over the one before'.
+-- How far the periods are taken then, and the buffers before and after: 'for the taken periods the sizes, the row of order values q each
+-- as stored, and the excitation', and 'Each taken period of size above 0 is decoded to its front, over the one before'.
 pub record Takes (file : List ℕ) (d : DiphoneVoice) (u : Unit) (endBefore : ℕ) (marks : List ℕ) (at r : Progress)
     (sizes₀ sizes₁ rows₀ rows₁ excitation₀ excitation₁ decoded₀ decoded₁ : List ℕ) : Type 0 where
   pub taken : r .taken ≡ at .taken + length (unitTaken (voiceOf file) u endBefore marks at)

@@ -74,7 +74,8 @@ fn write_row(file: &[u8], d: DiphoneVoice, p: usize, taken: usize, rows: &mut [u
     ensures { λ _.
         ⌜
         now (rows .exit) ≡
-        sets (now (rows .entry)) (2 * (d .header .order * taken)) (flat (bytesOf 2) (rowOf (voiceOf (now (file .entry))) p))
+        sets (now (rows .entry)) (2 * (d .header .order * taken))
+        (flat (bytesOf 2) (rowOf (voiceOf (now (file .entry))) p))
         ⌝ }
 {
     let at = 2 * (d.header.order as usize * taken);

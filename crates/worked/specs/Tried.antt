@@ -1,6 +1,6 @@
--- Inner: A whole call and the pulls after it, as plain numbers: one equation by `refl` then compares all that the definitions say of a call with
--- another reading of document 01. The long list below opens every definition that a call computes with, so that a statement, also one on
--- a part of a call, says `unfolding tried` alone; a definition that comes to a call's is added there.
+-- Inner: A whole call and the pulls after it, as plain numbers: one equation by `refl` then compares all that the definitions say of a
+-- call with another reading of document 01. The long list below opens every definition that a call computes with, so that a statement,
+-- also one on a part of a call, says `unfolding tried` alone; a definition that comes to a call's is added there.
 use mathlib.Core.List.{List, [], _∷_, map}
 use Prim.Native.Nat.{ℕ}
 use lib.IntN.{ℤ}
