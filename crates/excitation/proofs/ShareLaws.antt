@@ -2,7 +2,7 @@
 use mathlib.Core.Path.{_≡_, refl, sym, ap, _∙_}
 use mathlib.Core.Bool.{Bool, true, false}
 use mathlib.Core.List.{List, [], _∷_, _++_}
-use Prim.Native.Nat.{ℕ, zero, suc, _+_, _-_, _≤_, _<_, max}
+use Prim.Native.Nat.{ℕ, zero, suc, _-_, _≤_, _<_, max}
 use native.Mathlib.Omega.{arith}
 use borrow.Author.Tests.{leb-true, leb-false, le-leb, lt-leb, lt-ltb, le-ltb}
 use lib.Dec.{leb, ltb}
@@ -176,7 +176,7 @@ module _ (us : List Unit) (ms : List ℕ) where
   unfolding shares
   few-shares h = ap (λ (t : Bool). twoMarks t (sharesFrom 0 0 us ms)) (lt-ltb (length ms) 2 h)
 
-  pub two-shares : 2 ≤ length ms → shares us ms ≡ sharesFrom 0 0 us ms
+  two-shares : 2 ≤ length ms → shares us ms ≡ sharesFrom 0 0 us ms
   unfolding shares
   two-shares h = ap (λ (t : Bool). twoMarks t (sharesFrom 0 0 us ms)) (le-ltb (length ms) 2 h)
 

@@ -191,7 +191,7 @@ module _ (file : List ℕ) (d : DiphoneVoice) (u : Unit) (marks : List ℕ) (pac
   unfolding periodsOfMarks lastOf
   ran-out h = ap (λ (ms : List ℕ). wholeFrom file d u pace to place ms s r e b) (sym (lent-none marks end (to .taken) h)) ∙ g .all
 
-  pub mark-there : to .taken < end → to .taken < length marks / 4
+  mark-there : to .taken < end → to .taken < length marks / 4
   mark-there h = let a = g .within in omega arith
 
   module _ (m : ℕ) (h : to .taken < end) (is : m ≡ u32At marks (to .taken)) where
