@@ -1,10 +1,8 @@
 // Whole calls at the edges of what document 01 admits.
 use crate::print;
 use crate::pulls;
-use call::JoinType;
 use call::Planned;
 use call::Settings;
-use lpc::ResynthType;
 
 // Makes a call that is lent the fronts of buffers, each so many bytes long.
 fn plan_in(
@@ -43,24 +41,22 @@ fn plan_in(
     )
 }
 
-// Makes a call by the fixed filter that is lent so many bytes of each buffer: index, marks, sizes, rows,
-// excitation and decoded.
-fn plan(voice: &[u8], sheet: &[u8], join: JoinType, lens: [isize; 6]) -> Planned {
+const SIMPLE: u32 = call::JOIN_SIMPLE + call::FILTER_FIXED;
+const MODIFIED: u32 = call::JOIN_MODIFIED + call::FILTER_FIXED;
+
+// Makes a call with the settings of a word that is lent so many bytes of each buffer: index, marks,
+// sizes, rows, excitation and decoded.
+fn plan(voice: &[u8], sheet: &[u8], settings: u32, lens: [isize; 6]) -> Planned {
     let mut index = [0u8; 16];
     let mut marks = [0u8; 262144];
     let mut sizes = [0u8; 32760];
     let mut rows = [0u8; 192];
     let mut excitation = [0u8; 20475];
     let mut decoded = [0u8; 16];
-    let settings = Settings {
-        join: join,
-        filter: ResynthType::Fixed,
-        fold: false,
-    };
     plan_in(
         voice,
         sheet,
-        settings,
+        call::settings_of(settings),
         lens[0],
         &mut index,
         lens[1],
@@ -78,14 +74,14 @@ fn plan(voice: &[u8], sheet: &[u8], join: JoinType, lens: [isize; 6]) -> Planned
 
 // Makes the call by the modified join, and prints its answer.
 fn make(voice: &[u8], sheet: &[u8], lens: [isize; 6]) {
-    print::called(plan(voice, sheet, JoinType::ModifiedLpc, lens));
+    print::called(plan(voice, sheet, MODIFIED, lens));
 }
 
 // A sheet of segments with no name. By the simple join each of 4,095 pairs gives the two periods, of 2
 // and 3 samples, of the voice's one entry.
 pub fn try_segments(voice: &[u8], sheet: &[u8]) {
     let lens = [8, 32760, 32760, 0, 20475, 0];
-    print::called(plan(voice, sheet, JoinType::Simple, lens));
+    print::called(plan(voice, sheet, SIMPLE, lens));
 }
 
 // A sheet of 65,536 marks and more. Both target ends are 0, and so are the first eight marks.
@@ -135,7 +131,7 @@ pub fn try_bytes(voice: &[u8], sheet: &[u8]) {
 fn speak_nothing(voice: &[u8], index: isize, decoded: isize) {
     let sheet = [0u8; 2];
     let lens = [index, 0, 0, 0, 0, decoded];
-    let planned = plan(voice, &sheet, JoinType::ModifiedLpc, lens);
+    let planned = plan(voice, &sheet, MODIFIED, lens);
     print::called(planned);
     let state = planned.state;
     let mut samples = [0u8; 2];

@@ -11,11 +11,9 @@ ghost use Rattle.transcript.specs.CallText as text;
 ghost use Rattle.transcript.specs.Program.{programSettings};
 use call::Answer;
 use call::Called;
-use call::JoinType;
 use call::Settings;
 use call::Summary;
 use lpc::FilterState;
-use lpc::ResynthType;
 
 // The limits of document 01's program: the bytes of its voice file and of its sheet.
 pub const VOICE_LIMIT: usize = 32768;
@@ -26,11 +24,7 @@ pub const SHEET_LIMIT: usize = 4096;
 pub fn program_settings() -> Settings
     ensures { λ r. ⌜ r ≡ programSettings ⌝ }
 {
-    Settings {
-        join: JoinType::Simple,
-        filter: ResynthType::Fixed,
-        fold: false,
-    }
+    call::settings_of(call::JOIN_SIMPLE + call::FILTER_FIXED)
 }
 
 // How many samples a pull gave.
