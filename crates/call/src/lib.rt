@@ -21,7 +21,9 @@ pub struct Settings {
 
 // The flags of a settings word, as the C header has them.
 pub const JOIN_SIMPLE: u32 = 1;
+
 pub const JOIN_MODIFIED: u32 = 2;
+
 pub const FILTER_FIXED: u32 = 4;
 
 // The join of a number: 0 none, 1 simple, any other modified.

@@ -42,6 +42,7 @@ fn plan_in(
 }
 
 const SIMPLE: u32 = call::JOIN_SIMPLE + call::FILTER_FIXED;
+
 const MODIFIED: u32 = call::JOIN_MODIFIED + call::FILTER_FIXED;
 
 // Makes a call with the settings of a word that is lent so many bytes of each buffer: index, marks,
