@@ -28,9 +28,11 @@ cast-if1 c = search needs
 returns : tie.Need-returns Inv-loop μ-loop
 returns c =
     let l = c .before .before .before .before in
-    let a = l .before .before .args in
-    (share-ends (a .unit) (a .marks .now) (a .taken) (l .loop .end) (l .loop .inv .0) _
-    (c .before .before .before .loop-test .taken) (c .before .before .u32-at .ensures) (c .if1 .taken), l .loop .inv .1)
+    let a = l .before .before .args in (
+      share-ends (a .unit) (a .marks .now) (a .taken) (l .loop .end) (l .loop .inv .0) _
+          (c .before .before .before .loop-test .taken) (c .before .before .u32-at .ensures) (c .if1 .taken),
+      l .loop .inv .1,
+    )
 
 add-end : tie.Need-add-end Inv-loop μ-loop
 add-end c = search needs
