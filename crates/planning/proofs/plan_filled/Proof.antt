@@ -13,6 +13,9 @@ fill-requires c κs =
 summary-requires : tie.Need-summary-requires
 summary-requires c κs = search needs
 
+filter-in-requires : tie.Need-filter-in-requires
+filter-in-requires c κs = search needs
+
 cast-fresh : tie.Need-cast-fresh
 cast-fresh c = search needs
 
@@ -39,10 +42,11 @@ same-length-6 c = search needs
 
 returns : tie.Need-returns
 returns c =
-    let s = c .before .before .before .before .before .before .before .before .before .before .before .before .before .before .before .before .before .before .before .before .before .before .before .before .before .before .before .before .before .before .before .before in
+    let l = c .before .before .before in
+    let s = l .before .before .before .before .before .before .before .before .before .before .before .before .before .before .before .before .before .before .before .before .before .before .before .before .before .before .before .before .before .before in
     let a = s .args in
-    let l = c .before .before .before .before .before .before .before .before .before .before .before .before .before .before .before .before .before .fill .ensures in
-    spoken-ends (a .file .now) (a .sheet .now) (a .settings) (a .fit) (s .pre .0) (lent (a .index .now) (a .marks .now) (a .sizes .now) (a .rows .now) (a .excitation .now) (a .decoded .now)) _ _ _ (s .pre .1) (c .before .before .summary .ensures) (c .fresh .ensures) l
+    let f = l .before .before .before .before .before .before .before .before .before .before .before .before .before .before .before .fill .ensures in
+    spoken-ends (a .file .now) (a .sheet .now) (a .settings) (a .fit) (s .pre .0) (lent (a .index .now) (a .marks .now) (a .sizes .now) (a .rows .now) (a .excitation .now) (a .decoded .now)) _ _ _ (s .pre .1) (l .summary .ensures) (rw (c .before .before .filter-in .ensures) at (c .fresh .ensures)) f
 
 pub plan-filled-spec : {M : Type 1} → statement M
 plan-filled-spec =
@@ -50,6 +54,7 @@ plan-filled-spec =
     (tie.spec
     fill-requires
     summary-requires
+    filter-in-requires
     cast-fresh
     fresh-requires
     same-length
