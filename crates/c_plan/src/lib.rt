@@ -10,7 +10,7 @@ ghost use Rattle.c_plan.specs.Plan as plans;
 use checking::Checked;
 
 // How long each buffer of a call must be: 0, or the number of the refusal.
-pub fn need_in_c(voice: &[u8], sheet: &[u8], join: u32, fold: u32, need: &mut [u8]) -> u32
+pub fn need_in_c(voice: &[u8], sheet: &[u8], settings: u32, need: &mut [u8]) -> u32
     ensures { λ r.
         ⌜
         r ≡ answerOf

@@ -5,6 +5,9 @@ use borrow.Author.Needs.{needs}
 use Rattle.transcript.proofs.program_settings.Statement.{statement}
 use Rattle.transcript.proofs.program_settings.Tie as tie
 
+add-settings-of : tie.Need-add-settings-of
+add-settings-of c = search needs
+
 settings-of-requires : tie.Need-settings-of-requires
 settings-of-requires c κs = search needs
 
@@ -16,4 +19,4 @@ returns : tie.Need-returns
 returns c = c .settings-of .ensures ∙ said
 
 pub program-settings-spec : {M : Type 1} → statement M
-program-settings-spec = tie.close (tie.spec settings-of-requires returns)
+program-settings-spec = tie.close (tie.spec add-settings-of settings-of-requires returns)
