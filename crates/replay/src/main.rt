@@ -6,8 +6,10 @@ ghost use lib.ListN.{length, getD};
 ghost use Rattle.text.specs.Names.{same};
 ghost use Rattle.lines.specs.Lines.{Puts};
 ghost use Rattle.lines.specs.Lines as lines;
+ghost use Rattle.call.specs.Numbers.{settingsOf};
 ghost use Rattle.replay.specs.Stored as stored;
 ghost use Rattle.replay.specs.Tallies as tally;
+use call::Settings;
 use libc::STDOUT_FILENO;
 
 // ---- counting
@@ -77,6 +79,13 @@ impl Tally {
 
 // ---- the head of a stored call
 
+// The settings of a byte.
+fn settings_in(byte: u8) -> Settings
+    ensures { λ r. ⌜ r ≡ settingsOf byte ⌝ }
+{
+    call::settings_of(byte as u32)
+}
+
 const LIMITS: [usize; 9] = [
     transcript::VOICE_LIMIT,
     transcript::SHEET_LIMIT,
@@ -139,7 +148,7 @@ fn put_text(head: &[u8], voice: &[u8], sheet: &[u8], out: &mut [u8]) -> usize
     transcript::put_call(
         voice,
         sheet,
-        call::settings_of(head[1] as u32),
+        settings_in(head[1]),
         &mut index[..a],
         &mut marks[..b],
         &mut sizes[..c],

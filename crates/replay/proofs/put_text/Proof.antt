@@ -22,11 +22,11 @@ length-at-requires-5 c κs = search needs
 length-at-requires-6 : tie.Need-length-at-requires-6
 length-at-requires-6 c κs = search needs
 
-shared-slice-read-settings-of : tie.Need-shared-slice-read-settings-of
-shared-slice-read-settings-of c = search needs
+shared-slice-read-settings-in : tie.Need-shared-slice-read-settings-in
+shared-slice-read-settings-in c = search needs
 
-settings-of-requires : tie.Need-settings-of-requires
-settings-of-requires c κs = search needs
+settings-in-requires : tie.Need-settings-in-requires
+settings-in-requires c κs = search needs
 
 array-borrow-prefix-index : tie.Need-array-borrow-prefix-index
 array-borrow-prefix-index c = search needs
@@ -86,7 +86,7 @@ returns c =
     let a = b .before in
     let x = c .before .before .before .before .before .before .before .before .before .before .before .before .before .before .before .before .before .before .before .before .before .before .before .before .before .before .before .before .args in
     let t =
-    text-by (x .head .now) (x .voice .now) (x .sheet .now) (o .settings-of .ensures)
+    text-by (x .head .now) (x .voice .now) (x .sheet .now) (o .settings-in .ensures)
     (a .before .length-at .ensures .0) (a .length-at2 .ensures .0) (b .length-at3 .ensures .0) (d .length-at4 .ensures .0) (e .length-at5 .ensures .0) (f .length-at6 .ensures .0)
     in
     (rw t at (p .0), p .1 .0)
@@ -101,8 +101,8 @@ put-text-spec =
     length-at-requires-4
     length-at-requires-5
     length-at-requires-6
-    shared-slice-read-settings-of
-    settings-of-requires
+    shared-slice-read-settings-in
+    settings-in-requires
     array-borrow-prefix-index
     slice-aggregate-put-call
     array-borrow-prefix-marks

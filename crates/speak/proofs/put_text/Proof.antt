@@ -47,6 +47,9 @@ returns-2 c =
     let x = c .before .before .before .before .before .before .before .before .before .before in
     (rw (le-ltb _ _ (c .before .before .before .before .before .before .if1 .left), lt-ltb _ _ (c .before .before .before .before .before .if2 .taken)) (rw (c .before .before .before .before .number2 .ensures) at (p .0)), counts-by _ _ (omega (arith, p .1, put-length (p .0), x .pre)))
 
+program-settings-requires : tie.Need-program-settings-requires
+program-settings-requires c κs = search needs
+
 slice-aggregate-put-call : tie.Need-slice-aggregate-put-call
 slice-aggregate-put-call c = search needs
 
@@ -75,8 +78,10 @@ returns-3 : tie.Need-returns-3
 unfolding textOf
 returns-3 c =
     let p = c .before .before .before .before .before .before .before .before .put-call .ensures in
-    let x = c .before .before .before .before .before .before .before .before .before .before .before .before .before .before .before .before .before .before .before .before .before in
-    (rw (le-ltb _ _ (c .before .before .before .before .before .before .before .before .before .before .before .before .before .before .before .before .before .if1 .left), le-ltb _ _ (c .before .before .before .before .before .before .before .before .before .before .before .before .before .before .before .before .if2 .left)) (p .0), counts-by _ _ (omega (arith, p .1 .0, put-length (p .0), x .pre)))
+    let m = c .before .before .before .before .before .before .before .before .before .before .before .before .before .before .before .before in
+    let t = m .before in
+    let x = t .before .before .before .before .before in
+    (rw (le-ltb _ _ (t .before .if1 .left), le-ltb _ _ (t .if2 .left)) (rw (m .program-settings .ensures) at (p .0)), counts-by _ _ (omega (arith, p .1 .0, put-length (p .0), x .pre)))
 
 pub put-text-spec : {M : Type 1} → statement M
 put-text-spec =
@@ -90,6 +95,7 @@ put-text-spec =
     put-refused-requires-2
     same-length-2
     returns-2
+    program-settings-requires
     slice-aggregate-put-call
     slice-aggregate-put-call-2
     slice-aggregate-put-call-3
