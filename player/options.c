@@ -208,8 +208,3 @@ int read_options(struct options *options, int count, char **words)
     }
     return check_options(options);
 }
-
-uint32_t settings_word(const struct options *options)
-{
-    return options->join | options->filter | options->fold;
-}

@@ -23,9 +23,6 @@ struct options {
 /* Reads the command line. Answers 0, or says on standard error what is wrong and answers -1. */
 int read_options(struct options *options, int count, char **words);
 
-/* The settings of the call. */
-uint32_t settings_word(const struct options *options);
-
 void print_usage(FILE *stream);
 
 #endif

@@ -2,6 +2,11 @@
 
 #include <string.h>
 
+static uint32_t settings_word(const struct options *options)
+{
+    return options->join | options->filter | options->fold;
+}
+
 /* Allocates what diphone_need asks for. */
 static int allocate_buffers(struct speech *speech, const uint8_t *need)
 {
