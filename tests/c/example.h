@@ -21,7 +21,11 @@ static inline void expect(int holds, const char *what)
 
 /* ---- a voice file, section by section */
 
-static uint8_t file[4096];
+#ifndef FILE_BYTES
+#define FILE_BYTES 4096
+#endif
+
+static uint8_t file[FILE_BYTES];
 static size_t length;
 static size_t ends[8]; /* where sections begin, but for the first */
 static size_t sections;
@@ -61,8 +65,9 @@ static inline void entry(const char *name, uint8_t start, uint8_t first, uint8_t
 
 static const uint8_t residual[5] = {0xFE, 0xEF, 0xFF, 0x7E, 0x6F};
 
-/* Two frames, rate 8000, the scales 0, offsets 0, 2, 5; the entry pau-aa alone, or another behind it
- * that comes first in order. The bytes of the rows count up from 1. Returns where the entries begin. */
+/* Two frames, rate 8000, the scales 0, offsets 0, 2, 5; the entry pau-aa alone, another behind it that
+ * comes first in order, or more behind it that come after. The bytes of the rows count up from 1.
+ * Returns where the entries begin. */
 static inline size_t example(uint32_t codec, uint32_t order, uint32_t count)
 {
     size_t entries;
@@ -96,8 +101,13 @@ static inline size_t example(uint32_t codec, uint32_t order, uint32_t count)
     u32(count);
     entries = length;
     entry("pau-aa", 0, 1, 1);
-    if (count > 1)
+    if (count == 2)
         entry("aa-pau", 1, 1, 0);
+    for (uint32_t i = 1; count > 2 && i < count; i += 1) {
+        char name[16];
+        snprintf(name, sizeof name, "q%05lu", (unsigned long)i);
+        entry(name, 1, 1, 0);
+    }
     return entries;
 }
 

@@ -1,14 +1,15 @@
 /* Measures how much stack a call takes: each function runs in a thread whose stack was painted, on
- * voices of either codec whose index is out of order, in every join and filter. Ends with 0 if none
- * takes more than the 64 KiB that the header names. */
+ * voices of either codec, in every join and filter: one whose index is out of order, and one in order
+ * of more than 4,096 entries. Ends with 0 if none takes more than the 64 KiB that the header names. */
 #define _XOPEN_SOURCE 700
 #define TEST "stack"
+#define FILE_BYTES 65536
 #include "example.h"
 
 #include <pthread.h>
 #include <stdlib.h>
 
-enum { LIMIT = 64 * 1024, STACK = 256 * 1024, PAINT = 0xC3, LENT = 4096 };
+enum { LIMIT = 64 * 1024, STACK = 256 * 1024, PAINT = 0xC3, LENT = 40960 };
 enum { INDEX, MARKS, SIZES, ROWS, EXCITATION, DECODED, STATE, SUMMARY, BUFFERS };
 enum { OPEN, NEED, PLAN, PULL, FUNCTIONS };
 
@@ -82,9 +83,9 @@ int main(void)
 
     if (posix_memalign((void **)&stack, 4096, STACK) != 0)
         return 1;
-    for (uint32_t setting = 0; setting < 12; setting += 1) {
-        example(setting % 2, 32, 2);
-        settings = setting / 2 % 3 | (setting / 6 == 0 ? DIPHONE_FILTER_FIXED : DIPHONE_FILTER_FLOAT);
+    for (uint32_t setting = 0; setting < 24; setting += 1) {
+        example(setting % 2, 32, setting < 12 ? 2 : 4098);
+        settings = setting / 2 % 3 | (setting / 6 % 2 == 0 ? DIPHONE_FILTER_FIXED : DIPHONE_FILTER_FLOAT);
         for (int function = OPEN; function < FUNCTIONS; function += 1) {
             size_t bytes_taken = taken(function);
             expect(answer == 0 || (function == PULL && answer >= DIPHONE_DONE), "the call is made");

@@ -1,9 +1,9 @@
--- Laws of `every`, `firstFailing` and `Heads`.
+-- Laws of `every`, `firstFailing`, `Heads`, parts of lists and lists of one element repeated.
 use mathlib.Core.Path.{_≡_, refl, sym, ap, _∙_}
 use mathlib.Core.Bool.{Bool, true, false, _&&_}
 use mathlib.Core.List.{List, [], _∷_, _++_, append-assoc, append-nil}
 use Prim.Native.Nat.{ℕ, zero, suc, _+_, _≤_, _<_}
-use lib.ListN.{length, take, drop, getD, length-drop}
+use lib.ListN.{length, take, drop, getD, replicate, length-drop}
 use lib.Seq.{getD-take, getD-drop, length-take-le, take-take, drop-drop}
 use native.Mathlib.Omega.{arith}
 use mathlib.Core.Option.{Option, none, some}
@@ -116,3 +116,10 @@ module _ {A : Type 0} where
 
   pub heads-longer : {s t : List A} (x : List A) → Heads s t → Heads s (t ++ x)
   heads-longer {s} x h = heads-by (h .more ++ x) (ap (λ (l : List A). l ++ x) (h .whole) ∙ append-assoc s (h .more) x)
+
+-- ---- one element, repeated
+
+pub replicated : {A : Type 0} (n i : ℕ) (a : A) → getD (replicate n a) i a ≡ a
+replicated zero i a = refl
+replicated (suc n) zero a = refl
+replicated (suc n) (suc i) a = replicated n i a

@@ -1,6 +1,6 @@
 // The check of a call, which writes nothing.
 ghost use mathlib.Core.Path.{_≡_};
-ghost use mathlib.Core.Bool.{Bool, false};
+ghost use mathlib.Core.Bool.{Bool};
 ghost use Prim.Native.Nat.{_≤_, _<_};
 ghost use lib.ListN.{length};
 ghost use Rattle.voice.specs.Voice.{Voice, voiceOf};
@@ -23,6 +23,7 @@ use refusal::Refusal;
 use sheet::Places;
 use sheet::SheetAnswer;
 use units::CheckedEnds;
+use units::Held;
 use units::Selection;
 use voice::DiphoneVoice;
 use voice::Opened;
@@ -69,11 +70,12 @@ fn check_natural(file: &[u8], index: &[u8], sheet: &[u8], by: Selection) -> Join
         ⌝ }
 {
     let places = by.places;
+    let sampled = units::followers::sample(sheet, places);
     let mut walk = units::step::first_unit(sheet, places);
     let mut place = 0;
     let mut left = marks::MOST_MARKS;
     while units::step::has_unit(walk) {
-        let step = units::step::next_unit(file, index, sheet, by, walk);
+        let step = units::step::next_unit(file, index, sheet, by, &sampled, walk);
         let unit = step.unit;
         match marks::natural::check_unit_marks(
             file,
@@ -99,18 +101,18 @@ fn check_natural(file: &[u8], index: &[u8], sheet: &[u8], by: Selection) -> Join
     })
 }
 
-// Room for a sorted index of 4,096 entries.
+// Room for 4,096 places.
 fn blank_index() -> [u8; 32768]
     ensures { λ r. ⌜ length r ≡ 32768 ⌝ }
 {
     [0; 32768]
 }
 
-// Makes the marks of the simple join. The call's index buffer is not filled yet; the units of a voice
-// with at most 4,096 entries are found by a sorted index of the check's own.
+// Makes the marks of the simple join. The call's index buffer is not filled yet; the check has one of
+// its own.
 fn check_simple(file: &[u8], sheet: &[u8], by: Selection) -> Joined
     requires { ⌜
-        (IsOpen (now file) (by .voice) × (by .sorted ≡ false)) ×
+        IsOpen (now file) (by .voice) ×
         ((answerIn (sheetPlaces (now sheet)) ≡ SheetAnswer.Read (by .places)) × (0 < by .places .segments .count))
         ⌝ }
     ensures { λ r.
@@ -122,19 +124,16 @@ fn check_simple(file: &[u8], sheet: &[u8], by: Selection) -> Joined
         ⌝ }
 {
     let voice = by.voice;
-    let mut index = blank_index();
-    if 4096 < voice.count {
-        return check_natural(file, &index, sheet, by);
-    }
-    opening::fill_index(file, voice, &mut index);
     let places = by.places;
-    let sorted = Selection {
+    let mut index = blank_index();
+    let held = units::holding::hold(file, voice, &mut index);
+    let found_by = Selection {
         voice: voice,
-        sorted: true,
+        held: held,
         places: places,
         fold: by.fold,
     };
-    check_natural(file, &index, sheet, sorted)
+    check_natural(file, &index, sheet, found_by)
 }
 
 // Makes the target ends of the modified join, then its pitch marks, at a voice's rate.
@@ -177,7 +176,7 @@ fn no_marks() -> Joined
 // The marks of two segments or more.
 fn check_join(file: &[u8], sheet: &[u8], by: Selection, join: JoinType) -> Joined
     requires { ⌜
-        (IsOpen (now file) (by .voice) × (by .sorted ≡ false)) ×
+        IsOpen (now file) (by .voice) ×
         ((answerIn (sheetPlaces (now sheet)) ≡ SheetAnswer.Read (by .places)) × (0 < by .places .segments .count))
         ⌝ }
     ensures { λ r.
@@ -212,7 +211,7 @@ fn check_plan(
     }
     let by = Selection {
         voice: d,
-        sorted: false,
+        held: Held::Nothing,
         places: places,
         fold: settings.fold,
     };

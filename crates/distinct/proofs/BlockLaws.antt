@@ -3,7 +3,7 @@ use mathlib.Core.Path.{_≡_, refl, sym, ap, _∙_}
 use mathlib.Core.Bool.{Bool, true, false, not, _&&_, _||_}
 use mathlib.Core.List.{List, [], _∷_, _++_, map}
 use mathlib.Core.Option.{some}
-use Prim.Native.Nat.{ℕ, zero, suc, _+_, _-_, _≤_, _<_}
+use Prim.Native.Nat.{ℕ, zero, suc, _+_, _-_, _≤_}
 use native.Mathlib.Omega.{arith}
 use borrow.Author.Tests.{le-leb, lt-leb}
 use lib.Dec.{leb}
@@ -14,11 +14,13 @@ use Rattle.base.specs.Bytes.{littleEndian}
 use Rattle.base.proofs.CaseLaws.{by-order}
 use Rattle.text.specs.Names.{same}
 use Rattle.text.proofs.NameLaws.{same-eq, same-refl}
-use Rattle.voice.specs.Voice.{Entry, Placed, Index, entryAt, nextEntry, wholeEntry, withEntry, entriesFrom, lookup, isSome}
+use Rattle.voice.specs.Voice.{Entry, Placed, Index, entryAt, nextEntry, wholeEntry, entriesFrom, lookup, isSome}
 use Rattle.voice.specs.Opening.{distinct}
-use Rattle.distinct.specs.Blocks.{endOf, apart, blockDiffers}
+use Rattle.distinct.specs.Blocks.{apart, blockDiffers}
+use Rattle.index.specs.Index.{endOf}
 use Rattle.index.proofs.OrderLaws.{not-both}
-use Rattle.index.proofs.WalkLaws.{placed, turn, walk-more, walk-cut, Walk}
+use Rattle.index.proofs.WalkLaws.{placed, walk-cut, Walk}
+use Rattle.index.proofs.EndLaws.{walk-one, walk-split}
 
 -- ---- two lists
 
@@ -89,39 +91,6 @@ distinct-append (p ∷ ps) qs =
     ∙ ap (λ (t : Bool). not (isSome (lookup (p .entry .name) ps) || isSome (lookup (p .entry .name) qs)) && t) (distinct-append ps qs)
     ∙ joined (isSome (lookup (p .entry .name) ps)) (isSome (lookup (p .entry .name) qs)) (distinct ps) (apart ps qs) (distinct qs)
     ∙ ap (λ (t : Bool). ((not (isSome (lookup (p .entry .name) ps)) && distinct ps) && t) && distinct qs) (sym (apart-cons p ps qs))
-
--- ---- m entries, then k
-
-module _ (bs : List ℕ) where
-  walk-one : (n at : ℕ) → wholeEntry bs at ≡ true → entriesFrom (suc n) bs at ≡ withEntry (placed bs at) (entriesFrom n bs (nextEntry bs at))
-  walk-one n at e =
-      let f : suc n - 1 ≡ n = omega arith in
-      walk-more bs (suc n) at (omega arith) e ∙ ap (λ (m : ℕ). withEntry (placed bs at) (entriesFrom m bs (nextEntry bs at))) f
-
-  pub record Split (m k at : ℕ) : Type 0 where
-    pub first : entriesFrom m bs at .whole ≡ true
-    pub second : entriesFrom k bs (endOf m bs at) .whole ≡ true
-    pub list : entriesFrom (m + k) bs at .list ≡ entriesFrom m bs at .list ++ entriesFrom k bs (endOf m bs at) .list
-
-  pub walk-split : (m k at : ℕ) → entriesFrom (m + k) bs at .whole ≡ true → Split m k at
-  unfolding entriesFrom endOf
-  walk-split zero k at w = let e : 0 + k ≡ k = omega arith in record { first = refl; second = rw e at w; list = rw e }
-  walk-split (suc m) k at w = go (wholeEntry bs at) refl (λ x. walk-split m k (nextEntry bs at) x)
-    where
-      go : (t : Bool) → wholeEntry bs at ≡ t → (entriesFrom (m + k) bs (nextEntry bs at) .whole ≡ true → Split m k (nextEntry bs at)) → Split (suc m) k at
-      go true e ih =
-          let f : suc m + k ≡ suc (m + k) = omega arith in
-          let one = walk-one (m + k) at e in
-          let two = walk-one m at e in
-          let g : entriesFrom (suc m + k) bs at ≡ withEntry (placed bs at) (entriesFrom (m + k) bs (nextEntry bs at)) = ap (λ (n : ℕ). entriesFrom n bs at) f ∙ one in
-          let r = ih (sym (ap (λ (i : Index). i .whole) g) ∙ w) in
-          record {
-            first = ap (λ (i : Index). i .whole) two ∙ r .first;
-            second = r .second;
-            list = ap (λ (i : Index). i .list) g ∙ ap (λ (l : List Placed). placed bs at ∷ l) (r .list)
-                ∙ sym (ap (λ (i : Index). i .list ++ entriesFrom k bs (endOf m bs (nextEntry bs at)) .list) two);
-          }
-      go false e ih = not-both (entriesFrom (suc m + k) bs at .whole) w (ap (λ (i : Index). i .whole) (walk-cut bs (suc m + k) at (omega arith) e))
 
 -- ---- the entries of a part that begins at a place
 
@@ -244,32 +213,6 @@ module _ (ps : List Placed) (q : Placed) (qs : List Placed) where
   pub apart-more : isSome (lookup (q .entry .name) ps) ≡ false → apart ps (q ∷ qs) ≡ apart ps qs
   unfolding apart
   apart-more e = rw e
-
--- ---- where a block ends
-
-end-one : (bs : List ℕ) (n at : ℕ) → 0 < n → endOf (n - 1) bs (nextEntry bs at) ≡ endOf n bs at
-unfolding endOf
-end-one bs zero at h = absurd (omega arith)
-end-one bs (suc n) at h = let e : suc n - 1 ≡ n = omega arith in rw e
-
-end-none : (bs : List ℕ) (n at : ℕ) → n ≤ 0 → endOf n bs at ≡ at
-unfolding endOf
-end-none bs zero at h = refl
-end-none bs (suc n) at h = absurd (omega arith)
-
-module _ (bs : List ℕ) (x : ℕ) where
-  pub record Ending (n at : ℕ) : Type 0 where
-    pub within : at ≤ length bs
-    pub whole : entriesFrom n bs at .whole ≡ true
-    pub same : endOf n bs at ≡ x
-
-  pub ending-more : (n at : ℕ) → Ending n at → 0 < n → (next : ℕ) → (next ≡ nextEntry bs at) × ((at + 5 ≤ next) × (next ≤ length bs)) → Ending (n - 1) next
-  ending-more n at e h next r =
-      let t = turn bs n at h (e .whole) in
-      record { within = r .1 .1; whole = rw (r .0) (t .whole); same = rw (r .0) (end-one bs n at h ∙ e .same) }
-
-  pub ending-end : (n at : ℕ) → Ending n at → n ≤ 0 → at ≡ x
-  ending-end n at e h = sym (end-none bs n at h) ∙ e .same
 
 -- ---- what a block's two tests tell
 

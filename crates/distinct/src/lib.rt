@@ -2,7 +2,7 @@
 // `requires` here is what the caller has tested.
 ghost use mathlib.Core.Path.{_≡_};
 ghost use mathlib.Core.Bool.{true, false};
-ghost use Prim.Native.Nat.{_+_, _<_, _≤_};
+ghost use Prim.Native.Nat.{_<_, _≤_};
 ghost use lib.ListN.{length};
 ghost use Rattle.text.specs.Names.{same};
 ghost use Rattle.voice.specs.Voice.{entryAt, nextEntry, entriesFrom, isSome};
@@ -10,7 +10,7 @@ ghost use Rattle.voice.specs.Voice as voices;
 ghost use Rattle.voice.specs.Opening.{distinct};
 ghost use Rattle.index.specs.Index.{Indexable, Filled};
 ghost use Rattle.index.specs.Shuffle.{Shuffled, nameIn};
-ghost use Rattle.distinct.specs.Blocks.{endOf, apart, blockDiffers};
+ghost use Rattle.distinct.specs.Blocks.{apart, blockDiffers};
 use index::FoundEntry;
 
 // Whether the name of the entry at a place is one of the block's: the first `count` entries, whose
@@ -137,23 +137,6 @@ fn block_differs(entries: &[u8], count: usize, end: usize, later: usize) -> bool
     false
 }
 
-// Where the entry after the first `count` entries begins.
-fn end_of(entries: &[u8], count: usize) -> usize
-    requires { ⌜ entriesFrom count (now entries) 0 .whole ≡ true ⌝ }
-    ensures { λ r.
-        ⌜
-        (r ≡ endOf count (now (entries .entry)) 0) × (r ≤ length (now (entries .entry)))
-        ⌝ }
-{
-    let mut at = 0;
-    let mut left = count;
-    while 0 < left {
-        at = index::next_entry(entries, at);
-        left -= 1;
-    }
-    at
-}
-
 // How many of the entries that are left the next block has.
 fn block_size(left: usize) -> usize
     requires { ⌜ 0 < left ⌝ }
@@ -174,7 +157,7 @@ fn names_differ(entries: &[u8], count: usize) -> bool
     let mut left = count;
     while 0 < left {
         let size = block_size(left);
-        let end = end_of(&entries[at..], size);
+        let end = index::entry_after(&entries[at..], 0, size);
         if block_differs(&entries[at..], size, end, left - size) {
             at += end;
             left -= size;

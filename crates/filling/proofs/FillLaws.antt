@@ -19,9 +19,10 @@ use Rattle.sheet.specs.Sheet.{Sheet, segment, sheetOf}
 use Rattle.sheet.specs.Places.{answerIn, sheetPlaces}
 use Rattle.sheet.proofs.ReadLaws.{sheet-ahead}
 use Rattle.sheet.proofs.WalkLaws.{ahead-length}
+use Rattle.units.specs.declared.Held.the-variants.{Sorted}
 use Rattle.units.specs.declared.Selection.{Selection}
 use Rattle.units.specs.Selecting.{folded}
-use Rattle.units.proofs.AskedLaws.{index-filled}
+use Rattle.units.proofs.AskedLaws.{holds-sorted}
 use Rattle.excitation.specs.Taken.{Period, taken, rowsOf, excitationOf}
 use Rattle.excitation.proofs.ShareLaws.{taken-none}
 use Rattle.excitation.proofs.SizedLaws.{Sized, taken-sized}
@@ -64,7 +65,7 @@ filled-by-parts v s o old i m b p q r = same-lent p q (r .sizes) (r .rows) (r .e
 
 -- how its units are selected, by the sorted index
 abbrev pub selecting : DiphoneVoice → Places → Settings → Selection
-selecting d p o = record { voice = d; sorted = true; places = p; fold = o .fold }
+selecting d p o = record { voice = d; held = Sorted; places = p; fold = o .fold }
 
 module _ (file sheet : List ℕ) (o : Settings) (d : DiphoneVoice) (p : Places) (n : Need) (b : Buffers) (h : CanFill file sheet o d p n b) where
   abbrev v : Voice
@@ -135,7 +136,7 @@ module _ (file sheet : List ℕ) (o : Settings) (d : DiphoneVoice) (p : Places) 
         record {
           marked =
               record {
-                selects = record { searchable = record { opened = h .opened; filled = λ t. index-filled file d (h .opened) (b .index) index index-room e f }; places = h .places };
+                selects = record { searchable = record { opened = h .opened; holds = holds-sorted file d (h .opened) (b .index) index index-room e f }; places = h .places };
                 two = l;
                 spoken = sym (ap (λ (q : Plan). q .refusal) plan-is) ∙ h .passed;
                 room = subst (λ (q : Plan). 4 * length (q .marks) ≤ length (b .marks)) plan-is (omega arith);

@@ -16,6 +16,7 @@ use call::Need;
 use call::Settings;
 use sheet::Places;
 use taking::Progress;
+use units::Held;
 use units::Selection;
 use units::Unit;
 use voice::DiphoneVoice;
@@ -32,11 +33,12 @@ fn store_natural_marks(file: &[u8], index: &[u8], sheet: &[u8], by: Selection, m
 {
     let places = by.places;
     let voice = by.voice;
+    let sampled = units::followers::sample(sheet, places);
     let mut walk = units::step::first_unit(sheet, places);
     let mut place = 0;
     let mut i = 0;
     while units::step::has_unit(walk) {
-        let step = units::step::next_unit(file, index, sheet, by, walk);
+        let step = units::step::next_unit(file, index, sheet, by, &sampled, walk);
         let unit = step.unit;
         let first = unit.first_period;
         let last = unit.last_period;
@@ -113,6 +115,7 @@ fn take_units(
 {
     let places = by.places;
     let voice = by.voice;
+    let sampled = units::followers::sample(sheet, places);
     let mut walk = units::step::first_unit(sheet, places);
     let mut end = 0;
     let mut at = Progress {
@@ -121,7 +124,7 @@ fn take_units(
         front: voice.header.frames as usize,
     };
     while units::step::has_unit(walk) {
-        let step = units::step::next_unit(file, index, sheet, by, walk);
+        let step = units::step::next_unit(file, index, sheet, by, &sampled, walk);
         let unit = join_unit(file, voice, step.unit, natural, end);
         at = taking::take_unit(
             file,
@@ -278,7 +281,7 @@ pub fn fill(
     let join = settings.join;
     let by = Selection {
         voice: voice,
-        sorted: true,
+        held: Held::Sorted,
         places: places,
         fold: settings.fold,
     };

@@ -1,6 +1,7 @@
 -- The root of index's laws.
 pub mod WalkLaws
 pub mod OrderLaws
+pub mod EndLaws
 pub mod TestLaws
 pub mod BufferLaws
 pub mod SortLaws

@@ -2,14 +2,14 @@
 // the bytes after the count. A `requires` here is what the caller has tested.
 ghost use mathlib.Core.Path.{_≡_};
 ghost use mathlib.Core.Bool.{true};
-ghost use Prim.Native.Nat.{_+_, _*_, _^_, _<_, _≤_};
-ghost use lib.ListN.{length, getD, take, drop};
+ghost use Prim.Native.Nat.{_+_, _*_, _<_, _≤_};
+ghost use lib.ListN.{length, getD, take};
 ghost use Rattle.base.specs.Buffers.{over};
 ghost use Rattle.text.specs.Names.{before};
 ghost use Rattle.voice.specs.Voice.{entryAt, nextEntry, wholeEntry, entriesFrom, sort};
 ghost use Rattle.voice.specs.Opening.{withinFrames};
 ghost use Rattle.index.specs.Index.{Small, Indexable, periodsOf};
-ghost use Rattle.index.specs.Index.{ascending, indexOf, sortedFrom};
+ghost use Rattle.index.specs.Index.{ascending, endOf, indexOf, sortedFrom};
 ghost use Rattle.index.specs.Shuffle.{Shuffled, nameIn};
 use text::Order;
 
@@ -44,6 +44,23 @@ pub fn next_entry(entries: &[u8], at: usize) -> usize
         ⌝ }
 {
     at + 5 + byte_at(entries, at)
+}
+
+// Where the entry after `count` entries from a place on begins.
+pub fn entry_after(entries: &[u8], from: usize, count: usize) -> usize
+    requires { ⌜ (from ≤ length (now entries)) × (entriesFrom count (now entries) from .whole ≡ true) ⌝ }
+    ensures { λ r.
+        ⌜
+        (r ≡ endOf count (now (entries .entry)) from) × (r ≤ length (now (entries .entry)))
+        ⌝ }
+{
+    let mut at = from;
+    let mut left = count;
+    while 0 < left {
+        at = next_entry(entries, at);
+        left -= 1;
+    }
+    at
 }
 
 // The name of the entry at a place.
@@ -120,6 +137,17 @@ pub fn ends_within(entries: &[u8], count: usize, frames: usize) -> bool
     true
 }
 
+// Whether a name stands before another.
+pub fn name_before(a: &[u8], b: &[u8]) -> bool
+    ensures { λ r. ⌜ r ≡ before (now (a .entry)) (now (b .entry)) ⌝ }
+{
+    match text::compare(a, b) {
+        Order::Before => true,
+        Order::Same => false,
+        Order::After => false,
+    }
+}
+
 // Whether the name of the entry at place a stands before that at place b.
 pub fn stands_before(entries: &[u8], a: usize, b: usize) -> bool
     requires { ⌜
@@ -131,11 +159,7 @@ pub fn stands_before(entries: &[u8], a: usize, b: usize) -> bool
         r ≡ before (entryAt (now (entries .entry)) a .name) (entryAt (now (entries .entry)) b .name)
         ⌝ }
 {
-    match text::compare(name_at(entries, a), name_at(entries, b)) {
-        Order::Before => true,
-        Order::Same => false,
-        Order::After => false,
-    }
+    name_before(name_at(entries, a), name_at(entries, b))
 }
 
 // Whether each name stands before the next.

@@ -45,7 +45,7 @@ use Rattle.law.proofs.InhabitedInC.{made-in-c-exists}
 use Rattle.law.proofs.TwoCalls.{two-calls}
 use Rattle.law.specs.Made.{PlanMade, made, PullsMade, none, more, MadeAfter}
 use Rattle.law.specs.MadeInC.{MadeInC}
-use Rattle.law.specs.Demand3.{WholeLists, Pulled, Claim, Demand3, answerAt, givenBefore}
+use Rattle.law.specs.Demand3.{WholeLists, HasPulls, Claim, Demand3, answerAt, givenBefore}
 
 -- ---- every list of pulls
 
@@ -171,7 +171,7 @@ begun c d l ds es s t =
     record { heads = rw (a, b) (x .heads); equal = λ e. b ∙ x .equal e ∙ sym a }
 
 -- the claim, of all that shows what the definition does
-claim : (After : SpokenCall → List (List ℕ) → List Shown → Type 0) → ((c : SpokenCall) (ds : List (List ℕ)) → Pulled After c ds)
+claim : (After : SpokenCall → List (List ℕ) → List Shown → Type 0) → ((c : SpokenCall) (ds : List (List ℕ)) → HasPulls After c ds)
     → ((c : SpokenCall) (ds : List (List ℕ)) (os : List Shown) → After c ds os → os ≡ pullsAfter c ds) → Claim After
 claim After there same =
     record {

@@ -19,7 +19,7 @@ use Rattle.c_pull.specs.Pull.{numberFor, stateLeft, sliceLeft}
 use Rattle.c_plan.proofs.PlannedLaws.{by-call}
 use Rattle.call.specs.SpokenCall.{SpokenCall, LentBytes, readAs}
 use Rattle.law.specs.MadeInC.{PlanMadeInC, made, answerRead, PullsMadeInC, none, more, lentIn, MadeInC}
-use Rattle.law.specs.Demand3.{Pulled}
+use Rattle.law.specs.Demand3.{HasPulls}
 use Rattle.law.proofs.Lends.{lend, lendAll, lifetimes}
 
 -- ---- every setting is said by a word
@@ -81,7 +81,7 @@ plan-exists file sheet o h e =
     0 _ (sym (ap answerOf q), refl))
     e
 
-pub made-in-c-exists : (c : SpokenCall) (ds : List (List ℕ)) → Pulled MadeInC c ds
+pub made-in-c-exists : (c : SpokenCall) (ds : List (List ℕ)) → HasPulls MadeInC c ds
 made-in-c-exists c ds =
     let h : Handed = record { buffers = c .lent; state = replicate 168 0; summary = replicate 48 0 } in
     let after = handedAfter (c .voiceFile) (c .sheetFile) (c .settings) h in

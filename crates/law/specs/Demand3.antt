@@ -50,14 +50,14 @@ pub record WholeLists (c : SpokenCall) (ds : List (List ℕ)) (os : List Shown) 
       → (r ≡ ShortSlice) × (length (getD ds i []) / 2 < length (getD (periodsIn c) (givenBefore os i) []))
 
 -- `After c ds os` says that after the call c pulls that were lent the slices ds showed os; and there is something that they showed
-pub record Pulled (After : SpokenCall → List (List ℕ) → List Shown → Type 0) (c : SpokenCall) (ds : List (List ℕ)) : Type 0 where
+pub record HasPulls (After : SpokenCall → List (List ℕ) → List Shown → Type 0) (c : SpokenCall) (ds : List (List ℕ)) : Type 0 where
   pub shown : List Shown
   pub after : After c ds shown
 
 -- The claim.
 pub record Claim (After : SpokenCall → List (List ℕ) → List Shown → Type 0) : Type 0 where
   -- it speaks of something: after every spoken call, and whatever slices they are lent, pulls are made
-  pub pulled : (c : SpokenCall) (ds : List (List ℕ)) → Pulled After c ds
+  pub pulled : (c : SpokenCall) (ds : List (List ℕ)) → HasPulls After c ds
   pub wholeLists : (c : SpokenCall) (ds : List (List ℕ)) (os : List Shown) → After c ds os → WholeLists c ds os
   -- 'Now take two spoken calls ..: whatever slices the pulls of either are lent, the samples that the first has written when it says done
   -- begin those that the second has written at its own done, and are all of them if the sheets are equal.'

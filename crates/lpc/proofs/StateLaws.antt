@@ -1,12 +1,13 @@
 -- A filter state goes on with the samples that the list of periods defines.
 use mathlib.Core.Path.{_≡_, refl, sym, ap, _∙_}
 use mathlib.Core.List.{List, [], _∷_}
-use Prim.Native.Nat.{ℕ, zero, suc, _+_, _≤_}
+use Prim.Native.Nat.{ℕ, _+_, _≤_}
 use native.Mathlib.Omega.{arith}
-use lib.ListN.{length, getD, replicate, length-replicate}
+use lib.ListN.{length, replicate, length-replicate}
 use lib.Ieee.{Float}
 use Rattle.base.specs.Buffers.{over, flat}
 use Rattle.base.specs.Bytes.{bytesOf}
+use Rattle.base.proofs.ListLaws.{replicated}
 use Rattle.lpc.specs.declared.ResynthType.{ResynthType}
 use Rattle.lpc.specs.declared.ResynthType.the-variants.{Fixed, Float as FloatType}
 use Rattle.lpc.specs.declared.FilterState.{FilterState}
@@ -43,11 +44,6 @@ continues-low (fixed h e r q) = r .placeLow
 continues-low (float h e r q) = r .placeLow
 
 -- ---- the fresh state
-
-replicated : {A : Type 0} (n i : ℕ) (a : A) → getD (replicate n a) i a ≡ a
-replicated zero i a = refl
-replicated (suc n) zero a = refl
-replicated (suc n) (suc i) a = replicated n i a
 
 fresh-holds : {A : Type 0} (f : Filter A) (order : ℕ) → order ≤ 32 → Holds f order (record { history = replicate 33 (f .rest); place = order }) []
 fresh-holds f order l = record { placeLow = omega arith; room = rw length-replicate (omega arith); same = λ k m. replicated 33 (tap order order k) (f .rest) }

@@ -9,7 +9,6 @@ ghost use lib.ListN.{length};
 ghost use Rattle.sheet.specs.Places.{sheetPlaces, answerIn};
 ghost use Rattle.sheet.specs.declared.SheetAnswer.the-variants as SheetAnswer;
 ghost use Rattle.voice.specs.Opening.{IsOpen};
-ghost use mathlib.Core.Bool.{false};
 ghost use Rattle.units.specs.Asked.{Searchable};
 ghost use Rattle.units.specs.Units.{Inside};
 ghost use Rattle.probe_call.specs.Natural.{Goes};
@@ -18,6 +17,7 @@ use marks::UnitMarks;
 use refusal::Refusal;
 use sheet::Places;
 use sheet::SheetAnswer;
+use units::Held;
 use units::Selection;
 use units::Unit;
 use voice::DiphoneVoice;
@@ -68,13 +68,14 @@ fn store_units(file: &[u8], index: &[u8], sheet: &[u8], by: Selection, out: &mut
     if segments.count == 0 {
         return 0;
     }
+    let sampled = units::followers::sample(sheet, places);
     let mut walk = units::step::first_unit(sheet, places);
     let mut n = 0;
     while units::step::has_unit(walk) {
         if out.len() / 24 <= n {
             return 13;
         }
-        let step = units::step::next_unit(file, index, sheet, by, walk);
+        let step = units::step::next_unit(file, index, sheet, by, &sampled, walk);
         put_unit(out, n, step.unit);
         walk = step.walk;
         n += 1;
@@ -95,7 +96,7 @@ fn units_of(
 {
     let by = Selection {
         voice: d,
-        sorted: false,
+        held: Held::Nothing,
         places: places,
         fold: fold,
     };
@@ -147,7 +148,7 @@ fn store_natural(
 
 fn store_natural_marks(file: &[u8], sheet: &[u8], by: Selection, marks: &mut [u8]) -> u32
     requires { ⌜
-        (IsOpen (now file) (by .voice) × (by .sorted ≡ false)) ×
+        (IsOpen (now file) (by .voice) × (by .held ≡ Held.Nothing)) ×
         (answerIn (sheetPlaces (now sheet)) ≡ SheetAnswer.Read (by .places))
         ⌝ }
 {
@@ -157,11 +158,12 @@ fn store_natural_marks(file: &[u8], sheet: &[u8], by: Selection, marks: &mut [u8
         return 0;
     }
     let none = [0u8; 1];
+    let sampled = units::followers::sample(sheet, places);
     let mut walk = units::step::first_unit(sheet, places);
     let mut place = 0;
     let mut left = 65536;
     while units::step::has_unit(walk) {
-        let step = units::step::next_unit(file, &none, sheet, by, walk);
+        let step = units::step::next_unit(file, &none, sheet, by, &sampled, walk);
         match store_natural(file, by.voice, step.unit, place, left, marks) {
             UnitMarks::Refused(cause) => return refusal::number(cause),
             UnitMarks::To(end, after) => {
@@ -189,7 +191,7 @@ pub extern "C" fn probe_natural_marks(
             SheetAnswer::Read(places) => {
                 let by = Selection {
                     voice: d,
-                    sorted: false,
+                    held: Held::Nothing,
                     places: places,
                     fold: fold != 0,
                 };

@@ -2,22 +2,18 @@
 use mathlib.Core.Path.{_≡_, refl, sym, ap, subst, _∙_}
 use mathlib.Core.Bool.{Bool, true, false}
 use mathlib.Core.List.{List}
-use Prim.Native.Nat.{ℕ, zero, suc, _+_, _≤_, _<_}
+use Prim.Native.Nat.{ℕ, _+_, _≤_, _<_}
 use native.Mathlib.Omega.{arith}
 use lib.Dec.{eqb}
 use lib.ListN.{length, getD, set, replicate, length-set, length-replicate}
 use lib.Seq.{getD-set-same, getD-set-other}
 use borrow.Author.Tests.{eqb-true, eqb-false}
+use Rattle.base.proofs.ListLaws.{replicated}
 use Rattle.replay.specs.declared.Tally.{Tally}
 use Rattle.replay.specs.Tallies.{none, wrongWith, firstWith, counted, Sound}
 
-zeros : (n k : ℕ) → _≡_ {A = ℕ} (getD (replicate n 0) k 0) 0
-zeros zero k = refl
-zeros (suc n) zero = refl
-zeros (suc n) (suc k) = zeros n k
-
 pub none-sound : Sound none
-none-sound = record { wrong = omega arith; kinds = λ k. rw (zeros 14 k) (omega arith); whole = length-replicate {A = ℕ} 14 0; periods = omega arith }
+none-sound = record { wrong = omega arith; kinds = λ k. rw (replicated {A = ℕ} 14 k 0) (omega arith); whole = length-replicate {A = ℕ} 14 0; periods = omega arith }
 
 one-more : (xs : List ℕ) (i k n : ℕ) → i < length xs → ((j : ℕ) → getD xs j 0 ≤ n) → getD (set xs i (getD xs i 0 + 1)) k 0 ≤ n + 1
 one-more xs i k n h low = by (eqb k i) refl

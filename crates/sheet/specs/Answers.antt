@@ -5,7 +5,7 @@ use Prim.Native.Nat.{ℕ, _+_, _≤_, _<_}
 use lib.ListN.{length, drop}
 use lib.Ieee.{binary32, ofBits}
 use Rattle.base.specs.Choice.{pick}
-use Rattle.base.specs.Lists.{part}
+pub use Rattle.base.specs.Spans.{bytesAt}
 use Rattle.base.specs.declared.Span.{Span}
 use Rattle.refusal.specs.declared.Refusal.{Refusal}
 use Rattle.refusal.specs.declared.Refusal.the-variants.{NotFinite}
@@ -58,10 +58,6 @@ numberSays (number.Read n next) = reads n next
 -- a number below a bound
 abbrev pub NumberIs : List ℕ → ℕ → GotNumber → Got ℕ → Type 0
 NumberIs sheet bound r reading = Agrees sheet (λ n. n) (λ n. n < bound) (numberSays r) reading
-
--- the bytes of a part of a sheet
-abbrev pub bytesAt : List ℕ → Span → List ℕ
-bytesAt sheet s = part sheet (s .at) (s .len)
 
 abbrev pub nameSays : GotName → Said Span
 nameSays (name.Refused r) = refuses r

@@ -1,53 +1,46 @@
--- The places of every 64th segment.
+-- The places of every 16th segment.
 use mathlib.Core.Path.{_≡_, refl, sym, ap, subst, _∙_}
 use mathlib.Core.List.{List}
-use Prim.Native.Nat.{ℕ, zero, suc, _+_, _-_, _*_, _/_, _%_, _≤_, _<_}
+use mathlib.Core.Logic.{_⊎_, inl, inr, ⊎-elim}
+use Prim.Native.Nat.{ℕ, _*_, _/_, _%_, _<_}
 use native.Mathlib.Omega.{arith}
-use lib.ListN.{length, getD, set, length-set}
-use lib.Seq.{getD-set-same, getD-set-other}
+use lib.ListN.{length, getD, set}
+use lib.Seq.{set-out, getD-set-same, getD-set-other}
 use Rattle.base.proofs.CaseLaws.{by-order}
-use Rattle.units.specs.declared.PairWalk.{PairWalk}
-use Rattle.units.specs.Walking.{Walking, Starts, Sampled}
-use Rattle.units.proofs.WalkLaws.{walking-starts}
+use Rattle.units.specs.Walking.{Starts, Sampled, Kept}
+
+-- nothing is stored, or a 16th is
+pub kept-none : (number at : ℕ) (old : List ℕ) → Kept number at old old
+kept-none number at old = record { each = λ j. inl refl }
+
+pub kept-stored : (number at : ℕ) (old : List ℕ) → number % 16 ≡ 0 → Kept number at old (set old (number / 16) at)
+kept-stored number at old e =
+    by-order (number / 16) (length old)
+    (λ h. record { each = each h })
+    (λ h. subst (Kept number at old) (sym (set-out old (number / 16) at h)) (kept-none number at old))
+  where
+    each : number / 16 < length old → (j : ℕ) → (getD (set old (number / 16) at) j 0 ≡ getD old j 0) ⊎ ((16 * j ≡ number) × (getD (set old (number / 16) at) j 0 ≡ at))
+    each h j =
+        by-order j (number / 16)
+        (λ l. inl (getD-set-other old (number / 16) j at 0 (λ q. omega arith)))
+        (λ l. by-order (number / 16) j
+        (λ m. inl (getD-set-other old (number / 16) j at 0 (λ q. omega arith)))
+        (λ m.
+        let i : j ≡ number / 16 = omega arith in
+        inr (omega arith, ap (λ (k : ℕ). getD (set old (number / 16) at) k 0) i ∙ getD-set-same old (number / 16) at 0 h)))
 
 module _ (sheet : List ℕ) (count : ℕ) where
-  -- those of the first n segments are stored
-  abbrev pub SampledTo : ℕ → List ℕ → Type 0
-  SampledTo n sampled = (j : ℕ) → 64 * j < n → Starts sheet count (64 * j) (getD sampled j 0)
+  -- none is kept
+  pub sampled-none : (sampled : List ℕ) → ((j : ℕ) → getD sampled j 0 ≡ 0) → Sampled sheet count sampled
+  sampled-none sampled e = record { starts = λ j h. absurd (omega (arith, e j)) }
 
-  -- the first alone
-  pub sampled-first : (n at : ℕ) (sampled : List ℕ) → n ≤ 64 → getD sampled 0 0 ≡ at → Starts sheet count 0 at → SampledTo n sampled
-  sampled-first n at sampled h e s zero l = subst (Starts sheet count 0) (sym e) s
-  sampled-first n at sampled h e s (suc j) l = absurd (omega arith)
-
-  module _ (w : PairWalk) (k : Walking sheet count w) (sampled : List ℕ) (s : SampledTo (count - w .remaining) sampled) where
-    abbrev here : ℕ
-    here = count - w .remaining
-
-    -- one more segment is passed: it is a 64th, or is not
-    pub sampled-more : here % 64 ≡ 0 → here / 64 < length sampled → SampledTo (here + 1) (set sampled (here / 64) (w .next))
-    sampled-more e h j l =
-        by-order (64 * j) here
-        (λ b. subst (Starts sheet count (64 * j)) (sym (getD-set-other sampled (here / 64) j (w .next) 0 (λ q. omega arith))) (s j b))
-        (λ b.
-        let i : j ≡ here / 64 = omega arith in
-        let n : here ≡ 64 * j = omega arith in
-        let v : getD (set sampled (here / 64) (w .next)) j 0 ≡ w .next =
-        ap (λ (m : ℕ). getD (set sampled (here / 64) (w .next)) m 0) i ∙ getD-set-same sampled (here / 64) (w .next) 0 h in
-        subst (Starts sheet count (64 * j)) (sym v) (subst (λ (m : ℕ). Starts sheet count m (w .next)) n (walking-starts sheet count w k)))
-
-    pub sampled-same : (here % 64 ≡ 0 → ⊥) → SampledTo (here + 1) sampled
-    sampled-same e j l = s j (by-order (64 * j) here (λ b. b) (λ b. let n : here ≡ 64 * j = omega arith in absurd (e (omega arith))))
-
-    module _ (long : length sampled ≡ 64) (m : ℕ) (next : m ≡ here + 1) (new : List ℕ) where
-      abbrev Passed : Type 0
-      Passed = (length new ≡ 64) × SampledTo m new
-
-      pub passed-stored : count ≤ 4096 → 0 < w .remaining → here % 64 ≡ 0 → new ≡ set sampled (here / 64) (w .next) → Passed
-      passed-stored h r e q =
-          let f = k .fewer in
-          let i : here / 64 < length sampled = omega arith in
-          (ap length q ∙ length-set sampled (here / 64) (w .next) ∙ long, λ j l. subst (λ (x : List ℕ). Starts sheet count (64 * j) (getD x j 0)) (sym q) (sampled-more e i j (omega arith)))
-
-      pub passed-same : (here % 64 ≡ 0 → ⊥) → new ≡ sampled → Passed
-      passed-same e q = (ap length q ∙ long, λ j l. subst (λ (x : List ℕ). Starts sheet count (64 * j) (getD x j 0)) (sym q) (sampled-same e j (omega arith)))
+  -- one more
+  pub sampled-more : (number at : ℕ) (old new : List ℕ) → Starts sheet count number at → Sampled sheet count old → Kept number at old new → Sampled sheet count new
+  sampled-more number at old new s k e =
+      record {
+        starts = λ j h.
+            ⊎-elim
+            (λ q. subst (Starts sheet count (16 * j)) (sym q) (k .starts j (rw q at h)))
+            (λ q. subst (Starts sheet count (16 * j)) (sym (q .1)) (subst (λ (n : ℕ). Starts sheet count n at) (sym (q .0)) s))
+            (e .each j);
+      }

@@ -32,6 +32,8 @@ use Rattle.index.specs.declared.FoundEntry.the-variants.{Found, Missing}
 use Rattle.index.specs.Index.{Filled, periodsOf, foundOf, firstOf}
 use Rattle.index.proofs.FilledLaws.{empty-count, first-within}
 use Rattle.index.proofs.SortLaws.{Stored, each-stored, each-sort}
+use Rattle.sparse.specs.declared.Spacing.{Spacing}
+use Rattle.sparse.specs.Sparse.{SparseIndex}
 use Rattle.opening.proofs.IndexLaws.{indexSpan, index-are, open-whole, entries-are}
 use Rattle.sheet.specs.declared.Segment.{Segment}
 use Rattle.sheet.specs.Sheet.{SegmentRead}
@@ -120,6 +122,9 @@ module _ (file : List ℕ) (d : DiphoneVoice) (o : IsOpen file d) (bs : List ℕ
 
   pub filled-at : {index : List ℕ} → Filled (bytesAt file (d .entries)) (d .count) (d .entries .at) index → Filled bs (d .count) (d .entries .at) index
   filled-at {index} f = subst (λ (l : List ℕ). Filled l (d .count) (d .entries .at) index) (sym b) f
+
+  pub sparse-at : {by : Spacing} {index : List ℕ} → SparseIndex (bytesAt file (d .entries)) (d .count) by index → SparseIndex bs (d .count) by index
+  sparse-at {by} {index} s = subst (λ (l : List ℕ). SparseIndex l (d .count) by index) (sym b) s
 
 -- ---- the names tried in turn
 

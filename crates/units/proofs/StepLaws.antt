@@ -28,7 +28,7 @@ use Rattle.units.specs.declared.PairStep.{PairStep}
 use Rattle.units.specs.declared.UnitWalk.{UnitWalk}
 use Rattle.units.specs.Selecting.{foldedSegment, folded, entryOf}
 use Rattle.units.specs.Units.{endsOf, pairOf, listed, Inside, unitsOfPair, unitsFrom, unitsAll, unitsOf}
-use Rattle.units.specs.Walking.{listIn, segmentsAt, coming, Walking, unitsComing, StepsPair, withSecond, unitsLeft, manyLeft, Sampled, UnitWalking, StartsUnits, StepsUnit}
+use Rattle.units.specs.Walking.{listIn, segmentsAt, coming, Walking, unitsComing, StepsPair, withSecond, unitsLeft, manyLeft, UnitWalking, StartsUnits, StepsUnit}
 use Rattle.units.proofs.SelectLaws.{ShortHalves, selected-short}
 
 -- the segments are folded one by one
@@ -132,13 +132,13 @@ left-none v fold sheet count w z = by (w .halfway) refl
     by false e = coming-none v fold sheet count (w .pairs) (omega arith)
     by true e = let h = many-by w true e in absurd (omega arith)
 
-pub starts-units : (sheet : List ℕ) (count : ℕ) (w : PairWalk) (sampled : List ℕ) → Sampled sheet count sampled
+pub starts-units : (sheet : List ℕ) (count : ℕ) (w : PairWalk)
     → (Walking sheet count w × (w .remaining + 1 ≡ count)) × (sheetOf sheet .segments ≡ segmentRead sheet (w .left) ∷ coming sheet count w)
-    → StartsUnits sheet count (record { pairs = w; second = record { «first_period» = 0; «last_period» = 0; «target_end» = 0 }; halfway = false; sampled = sampled })
-starts-units sheet count w sampled k n =
+    → StartsUnits sheet count (record { pairs = w; second = record { «first_period» = 0; «last_period» = 0; «target_end» = 0 }; halfway = false })
+starts-units sheet count w n =
     record {
       units = λ v fold. coming-first v fold sheet count w (n .1);
-      walking = λ frames. record { pairs = n .0 .0; second = record { rising = omega arith; within = omega arith; short = omega arith }; sampled = k };
+      walking = λ frames. record { pairs = n .0 .0; second = record { rising = omega arith; within = omega arith; short = omega arith } };
       many = omega (arith, n .0 .1);
     }
 
@@ -147,24 +147,24 @@ module _ (file : List ℕ) (d : DiphoneVoice) (fold : Bool) (sheet : List ℕ) (
   with-half t = withSecond t (w .second) (unitsComing (voiceOf file) fold sheet count (w .pairs))
 
   pub steps-second : w .halfway ≡ true → UnitWalking (d .header .frames) sheet count w
-      → StepsUnit file d fold sheet count w (record { unit = w .second; walk = record { pairs = w .pairs; second = w .second; halfway = false; sampled = w .sampled } })
+      → StepsUnit file d fold sheet count w (record { unit = w .second; walk = record { pairs = w .pairs; second = w .second; halfway = false } })
   steps-second e u =
       let h = many-by w true e in
       record {
         units = ap with-half e;
-        walking = record { pairs = u .pairs; second = u .second; sampled = u .sampled };
+        walking = record { pairs = u .pairs; second = u .second };
         fewer = omega arith;
         inside = u .second;
       }
 
-  pub steps-first : w .halfway ≡ false → Sampled sheet count (w .sampled) → (s : PairStep) → StepsPair file d fold sheet count (w .pairs) s
-      → StepsUnit file d fold sheet count w (record { unit = s .units .first; walk = record { pairs = s .walk; second = s .units .second; halfway = true; sampled = w .sampled } })
-  steps-first e k s t =
+  pub steps-first : w .halfway ≡ false → (s : PairStep) → StepsPair file d fold sheet count (w .pairs) s
+      → StepsUnit file d fold sheet count w (record { unit = s .units .first; walk = record { pairs = s .walk; second = s .units .second; halfway = true } })
+  steps-first e s t =
       let h = many-by w false e in
       let f = t .fewer in
       record {
         units = ap with-half e ∙ t .units;
-        walking = record { pairs = t .walking; second = t .second; sampled = k };
+        walking = record { pairs = t .walking; second = t .second };
         fewer = omega arith;
         inside = t .first;
       }

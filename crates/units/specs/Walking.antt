@@ -2,7 +2,8 @@
 use mathlib.Core.Path.{_≡_}
 use mathlib.Core.Bool.{Bool, true, false}
 use mathlib.Core.List.{List, [], _∷_, _++_}
-use Prim.Native.Nat.{ℕ, _+_, _-_, _*_, _≤_, _<_}
+use mathlib.Core.Logic.{_⊎_}
+use Prim.Native.Nat.{ℕ, _+_, _-_, _*_, _<_}
 use lib.ListN.{drop, getD}
 use Rattle.base.specs.Choice.{pick}
 use Rattle.voice.specs.declared.DiphoneVoice.{DiphoneVoice}
@@ -47,9 +48,13 @@ pub record Starts (sheet : List ℕ) (count number at : ℕ) : Type 0 where
   pub ahead : isRead (segmentsAt sheet count (count - number) at) ≡ true
   pub list : listIn (segmentsAt sheet count (count - number) at) ≡ drop number (sheetOf sheet .segments)
 
--- the places of every 64th segment, of up to 4,096
-abbrev pub Sampled : List ℕ → ℕ → List ℕ → Type 0
-Sampled sheet count sampled = count ≤ 4096 → (j : ℕ) → 64 * j < count → Starts sheet count (64 * j) (getD sampled j 0)
+-- the places of every 16th segment; one that is 0 is not kept
+pub record Sampled (sheet : List ℕ) (count : ℕ) (sampled : List ℕ) : Type 0 where
+  pub starts : (j : ℕ) → 0 < getD sampled j 0 → Starts sheet count (16 * j) (getD sampled j 0)
+
+-- a place was stored for a segment with a number from 0, or none was
+pub record Kept (number at : ℕ) (old new : List ℕ) : Type 0 where
+  pub each : (j : ℕ) → (getD new j 0 ≡ getD old j 0) ⊎ ((16 * j ≡ number) × (getD new j 0 ≡ at))
 
 -- the units that are still to come
 abbrev pub unitsComing : Voice → Bool → List ℕ → ℕ → PairWalk → List Unit
@@ -80,7 +85,6 @@ manyLeft w = pick (w .halfway) 1 0 + 2 * w .pairs .remaining
 pub record UnitWalking (frames : ℕ) (sheet : List ℕ) (count : ℕ) (w : UnitWalk) : Type 0 where
   pub pairs : Walking sheet count (w .pairs)
   pub second : Inside frames (w .second)
-  pub sampled : Sampled sheet count (w .sampled)
 
 -- a walk from the first unit on has them all before it
 pub record StartsUnits (sheet : List ℕ) (count : ℕ) (w : UnitWalk) : Type 0 where

@@ -1,6 +1,7 @@
 // The units of a call: half a diphone each, stretched to a target end.
 pub mod ends;
 pub mod followers;
+pub mod holding;
 pub mod names;
 pub mod select;
 pub mod step;
@@ -10,6 +11,7 @@ ghost use mathlib.Core.Path.{_≡_};
 ghost use Rattle.units.specs.Units.{endingAt};
 use sheet::Places;
 use sheet::Segment;
+use sparse::Spacing;
 use voice::DiphoneVoice;
 
 // The greatest mark or target end that a call has.
@@ -68,13 +70,11 @@ pub struct PairStep {
     pub walk: PairWalk,
 }
 
-// A walk over units: that over the pairs, between the two units of a pair the second, and where
-// every 64th segment stands.
+// A walk over units: that over the pairs, and between the two units of a pair the second.
 pub struct UnitWalk {
     pub pairs: PairWalk,
     pub second: Unit,
     pub halfway: bool,
-    pub sampled: [usize; 64],
 }
 
 // A unit, and the walk after it.
@@ -83,11 +83,19 @@ pub struct UnitStep {
     pub walk: UnitWalk,
 }
 
-// What units are selected by: an open voice, whether its sorted index is used, where the sheet has
-// its segments, and whether `ah` is folded.
+// What an index buffer holds: nothing of use, the sorted index of a voice, or a sparse index, where
+// the voice's entries are in order.
+pub enum Held {
+    Nothing,
+    Sorted,
+    Sparse(Spacing),
+}
+
+// What units are selected by: an open voice, what the index buffer beside it holds, where the sheet
+// has its segments, and whether `ah` is folded.
 pub struct Selection {
     pub voice: DiphoneVoice,
-    pub sorted: bool,
+    pub held: Held,
     pub places: Places,
     pub fold: bool,
 }

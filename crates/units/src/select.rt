@@ -12,6 +12,7 @@ ghost use Rattle.units.specs.Asked.{Searchable, Named, Numbered};
 ghost use Rattle.units.specs.Walking.{Sampled};
 ghost use Rattle.units.specs.Selecting as selecting;
 ghost use Rattle.units.specs.Selecting.{foldedName};
+use super::Held;
 use super::Selection;
 use index::EntryPeriods;
 use index::FoundEntry;
@@ -35,7 +36,7 @@ fn is_minus(vc: Vc) -> bool
 fn in_cluster(
     sheet: &[u8],
     places: Places,
-    sampled: &[usize; 64],
+    sampled: &[usize; 256],
     left: Segment,
     right: Segment,
     number: usize,
@@ -62,16 +63,19 @@ fn in_cluster(
     is_minus(phoneset::vc_of(voice::sections::bytes_at(sheet, follower)))
 }
 
-// What the voice has under a name: by the sorted index, or in file order without it.
+// What the voice has under a name: by what the index buffer holds, else in file order.
 fn find_name(file: &[u8], index: &[u8], by: Selection, name: &[u8]) -> FoundEntry
     requires { ⌜ Searchable (now file) (now index) by ⌝ }
     ensures { λ r. ⌜ r ≡ foundOf (voices.lookup (now (name .entry)) (voices.voiceOf (now (file .entry)) .entries)) ⌝ }
 {
     let entries = voice::sections::bytes_at(file, by.voice.entries);
-    if by.sorted {
-        return search::find(entries, by.voice.count, by.voice.entries.at, index, name);
+    let count = by.voice.count;
+    let held = by.held;
+    match held {
+        Held::Nothing => search::lookup(entries, count, name),
+        Held::Sorted => search::find(entries, count, by.voice.entries.at, index, name),
+        Held::Sparse(spacing) => sparse::find(entries, count, spacing, index, name),
     }
-    search::lookup(entries, by.voice.count, name)
 }
 
 // The sorted first entry.
@@ -80,10 +84,13 @@ fn first_entry(file: &[u8], index: &[u8], by: Selection) -> EntryPeriods
     ensures { λ r. ⌜ r ≡ periodsOf (firstOf (voices.sorted (voices.voiceOf (now (file .entry))))) ⌝ }
 {
     let entries = voice::sections::bytes_at(file, by.voice.entries);
-    if by.sorted {
-        return search::first_sorted(entries, by.voice.count, by.voice.entries.at, index);
+    let count = by.voice.count;
+    let held = by.held;
+    match held {
+        Held::Nothing => search::smallest(entries, count),
+        Held::Sorted => search::first_sorted(entries, count, by.voice.entries.at, index),
+        Held::Sparse(spacing) => sparse::first(entries, count, spacing, index),
     }
-    search::smallest(entries, by.voice.count)
 }
 
 // What the voice has under the name of a pair, which is folded where fold is on.
@@ -136,7 +143,7 @@ pub fn select(
     index: &[u8],
     sheet: &[u8],
     by: Selection,
-    sampled: &[usize; 64],
+    sampled: &[usize; 256],
     left: Segment,
     right: Segment,
     number: usize,

@@ -21,7 +21,7 @@ pub fn next_units(
     index: &[u8],
     sheet: &[u8],
     by: Selection,
-    sampled: &[usize; 64],
+    sampled: &[usize; 256],
     walk: PairWalk,
 ) -> PairStep
     requires { ⌜
@@ -63,7 +63,6 @@ pub fn first_unit(sheet: &[u8], places: Places) -> UnitWalk
             target_end: 0,
         },
         halfway: false,
-        sampled: super::followers::sample(sheet, places),
     }
 }
 
@@ -78,12 +77,20 @@ pub fn has_unit(walk: UnitWalk) -> bool
     0 < pairs.remaining
 }
 
-// The next unit.
-pub fn next_unit(file: &[u8], index: &[u8], sheet: &[u8], by: Selection, walk: UnitWalk) -> UnitStep
+// The next unit. `sampled` has where every 16th segment stands.
+pub fn next_unit(
+    file: &[u8],
+    index: &[u8],
+    sheet: &[u8],
+    by: Selection,
+    sampled: &[usize; 256],
+    walk: UnitWalk,
+) -> UnitStep
     requires { ⌜
         Searchable (now file) (now index) by ×
         ((answerIn (sheetPlaces (now sheet)) ≡ SheetAnswer.Read (by .places)) ×
-        (UnitWalking (by .voice .header .frames) (now sheet) (by .places .segments .count) walk × (0 < manyLeft walk)))
+        (Sampled (now sheet) (by .places .segments .count) (now sampled) ×
+        (UnitWalking (by .voice .header .frames) (now sheet) (by .places .segments .count) walk × (0 < manyLeft walk))))
         ⌝ }
     ensures { λ r.
         ⌜
@@ -92,7 +99,6 @@ pub fn next_unit(file: &[u8], index: &[u8], sheet: &[u8], by: Selection, walk: U
 {
     let pairs = walk.pairs;
     let second = walk.second;
-    let sampled = walk.sampled;
     if walk.halfway {
         return UnitStep {
             unit: second,
@@ -100,11 +106,10 @@ pub fn next_unit(file: &[u8], index: &[u8], sheet: &[u8], by: Selection, walk: U
                 pairs: pairs,
                 second: second,
                 halfway: false,
-                sampled: sampled,
             },
         };
     }
-    let step = next_units(file, index, sheet, by, &sampled, pairs);
+    let step = next_units(file, index, sheet, by, sampled, pairs);
     let units = step.units;
     let first = units.first;
     let last = units.second;
@@ -115,7 +120,6 @@ pub fn next_unit(file: &[u8], index: &[u8], sheet: &[u8], by: Selection, walk: U
             pairs: after,
             second: last,
             halfway: true,
-            sampled: sampled,
         },
     }
 }

@@ -18,6 +18,16 @@ const MOST_DRAWS: usize = 300;
 const DAMAGED_VOICES: u64 = 3;
 const DAMAGED_SHEETS: u64 = 6;
 
+/// Entries of wide voices. The check of a simple join has room for 4,096
+/// places: those of all entries, of every second, third and so on.
+const WIDE: [usize; 9] = [4_095, 4_096, 4_097, 4_098, 8_191, 8_192, 8_193, 12_289, 20_001];
+
+/// Segments of a wide voice's sheet.
+const PAIRS: usize = 120;
+
+/// Segments of long sheets. The place of every 16th is kept for followers.
+const LONG: [usize; 9] = [15, 16, 17, 18, 33, 257, 1_000, 4_095, 4_096];
+
 /// Draws calls by their number.
 pub struct Generator {
     kinds: Vec<Kind>,
@@ -160,5 +170,44 @@ pub fn at_limits(seed: u64, mut check: impl FnMut(&mut Rng, Call)) {
             settings: limit.settings,
         };
         check(rng, call);
+    }
+}
+
+/// Voices of many entries, in order and not, each with a sheet of many pairs.
+pub fn wide(seed: u64, mut check: impl FnMut(&mut Rng, Call)) {
+    for (case, count) in WIDE.into_iter().enumerate() {
+        let rng = &mut Rng::for_case(seed, 9_400_000 + case as u64);
+        for ordered in [true, false] {
+            let words = voices::vocabulary(rng);
+            let covering = rng.once_in(2);
+            let spec = voices::voice(rng, &words, Extent::Small, covering);
+            let wide = voices::widened(rng, &spec, count, ordered);
+            let call = Call {
+                about: format!("{count} entries, in order: {ordered}"),
+                voice: voices::file(&wide.sections()),
+                sheet: write(&sheets::long(rng, &words, PAIRS)),
+                settings: Settings { join: Join::Simple, ..settings(rng) },
+            };
+            check(rng, call);
+        }
+    }
+}
+
+/// Sheets of many segments whose followers are anywhere, on voices that have
+/// every name they try.
+pub fn long(seed: u64, mut check: impl FnMut(&mut Rng, Call)) {
+    for (case, count) in LONG.into_iter().enumerate() {
+        let rng = &mut Rng::for_case(seed, 9_500_000 + case as u64);
+        for join in [Join::Simple, Join::Modified] {
+            let words = voices::vocabulary(rng);
+            let spec = voices::voice(rng, &words, Extent::Small, true);
+            let call = Call {
+                about: format!("{count} segments, {join:?}"),
+                voice: voices::file(&spec.sections()),
+                sheet: write(&sheets::long(rng, &words, count)),
+                settings: Settings { join, ..settings(rng) },
+            };
+            check(rng, call);
+        }
     }
 }

@@ -51,6 +51,8 @@ pub fn run(args: &Args) -> bool {
     cases::unfit_voices(args.seed, &mut each);
     cases::unfit_sheets(args.seed, &mut each);
     cases::at_limits(args.seed, &mut each);
+    cases::wide(args.seed, &mut each);
+    cases::long(args.seed, &mut each);
     bench.counts.check_reached(&mut bench.report);
     println!("oracle calls: seed {}, {calls} generated calls", args.seed);
     bench.counts.print();

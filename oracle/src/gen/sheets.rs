@@ -216,3 +216,16 @@ pub fn largest(words: &Vocabulary) -> Sheet {
     }
     sheet
 }
+
+/// A sheet of so many segments, each followed by any of them or by none.
+pub fn long(rng: &mut Rng, words: &Vocabulary, count: usize) -> Sheet {
+    let mut sheet = Sheet::default();
+    for i in 0..count {
+        sheet.segments.push(Segment {
+            name: rng.pick(&words.phones),
+            end: Value::float(i as f32 * 0.001),
+            follower: rng.between(0, count),
+        });
+    }
+    sheet
+}

@@ -496,3 +496,21 @@ pub fn extension(rng: &mut Rng, old: &VoiceSpec) -> VoiceSpec {
     spec.header.fold = rng.u32();
     spec
 }
+
+/// The voice with so many entries, in name order or with two neighbours exchanged.
+/// The new names stand before, between and behind the old ones.
+pub fn widened(rng: &mut Rng, old: &VoiceSpec, count: usize, ordered: bool) -> VoiceSpec {
+    let mut spec = old.clone();
+    for number in spec.entries.len()..count {
+        let first = char::from(rng.between(33, 126) as u8);
+        let mut entry = rng.pick(&old.entries);
+        entry.name = format!("{first}.{number:06}").into_bytes();
+        spec.entries.push(entry);
+    }
+    spec.entries.sort_by(|a, b| a.name.cmp(&b.name));
+    if !ordered {
+        let at = rng.between(1, count - 1);
+        spec.entries.swap(at - 1, at);
+    }
+    spec
+}

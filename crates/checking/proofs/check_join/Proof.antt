@@ -33,7 +33,7 @@ returns-2 c = let s = c .before .before .before .before .before .args in by-simp
 returns-3 : tie.Need-returns-3
 returns-3 c =
     let s = c .before .before .before .before .before in
-    let rate = ap (λ (h : VoiceHeader). h .rate) (header-is (s .args .file .now) (s .args .by .voice) (s .pre .0 .0 .places)) in
+    let rate = ap (λ (h : VoiceHeader). h .rate) (header-is (s .args .file .now) (s .args .by .voice) (s .pre .0 .places)) in
     by-modified (s .args .join) (s .args .file .now) (s .args .by .fold) (s .args .sheet .now) (c .check-modified .result) (c .before .enum-told3 .given .1) (c .check-modified .ensures _ (s .args .by .fold) rate)
 
 pub check-join-spec : {M : Type 1} → statement M

@@ -14,15 +14,18 @@ use Rattle.checking.proofs.check_natural.Statement.{statement}
 use Rattle.checking.proofs.check_natural.Tie as tie
 
 abbrev Inv-loop : tie.InvT-loop
-Inv-loop file index sheet by walk₀ place₀ left₀ walk place left =
+Inv-loop file index sheet by sampled walk₀ place₀ left₀ walk place left =
     UnitWalking (by .voice .header .frames) sheet (by .places .segments .count) walk
     × Going (voiceOf file) (unitsOf (voiceOf file) (folded (by .fold) (sheetOf sheet .segments))) (unitsLeft (voiceOf file) (by .fold) sheet (by .places .segments .count) walk) place left
 
 abbrev μ-loop : tie.MeasureT-loop
-μ-loop file index sheet by walk₀ place₀ left₀ walk place left = manyLeft walk
+μ-loop file index sheet by sampled walk₀ place₀ left₀ walk place left = manyLeft walk
+
+sample-requires : tie.Need-sample-requires Inv-loop μ-loop
+sample-requires c κs = c .before .before .before .before .pre .1
 
 first-unit-requires : tie.Need-first-unit-requires Inv-loop μ-loop
-first-unit-requires c κs = c .before .before .before .before .pre .1
+first-unit-requires c κs = c .before .before .before .before .before .pre .1
 
 loop-holds : tie.Need-loop-holds Inv-loop μ-loop
 loop-holds c = let s = c .first-unit .ensures in (s .walking _, going-first _ _ _ (s .units _ _))
@@ -32,18 +35,21 @@ has-unit-requires c κs = search needs
 
 next-unit-requires : tie.Need-next-unit-requires Inv-loop μ-loop
 next-unit-requires c κs =
-    let p = c .before .before .before .before .before .before .before .before .pre in
-    (p .0, (p .1 .0, (c .before .before .loop .inv .0, ltb-true 0 _ (sym (c .before .has-unit .ensures) ∙ c .if1 .taken))))
+    let l = c .before .before .before in
+    let p = l .before .before .before .before .before .before .before .pre in
+    (p .0, (p .1 .0, (l .before .before .sample .ensures, (l .loop .inv .0, ltb-true 0 _ (sym (c .before .before .has-unit .ensures) ∙ c .before .if1 .taken)))))
 
 check-unit-marks-requires : tie.Need-check-unit-marks-requires Inv-loop μ-loop
-check-unit-marks-requires c κs = (c .before .before .before .before .before .before .before .before .before .before .pre .0 .opened, c .before .next-unit .ensures .inside .within, c .before .before .before .before .loop .inv .1 .low)
+check-unit-marks-requires c κs =
+    let l = c .before .before .before .before .before in
+    (l .before .before .before .before .before .before .before .pre .0 .opened, c .before .next-unit .ensures .inside .within, l .loop .inv .1 .low)
 
 enum-known-cause : tie.Need-enum-known-cause Inv-loop μ-loop
 enum-known-cause c = search needs
 
 returns : tie.Need-returns Inv-loop μ-loop
 returns c =
-    let l = c .before .before .before .before .before .before .before .before .loop in
+    let l = c .before .before .before .before .before .before .before .before .before .loop in
     let s = c .before .before .before .before .before .next-unit in
     going-refused _ _ _ _ _ _ _ (s .ensures .units) (l .inv .1) _ (sym (c .before .before .before .check-unit-marks .ensures .0) ∙ c .before .cause .given .1)
 
@@ -55,7 +61,7 @@ loop-less c = let e = c .before .before .before .before .before .before .next-un
 
 loop-again : tie.Need-loop-again Inv-loop μ-loop
 loop-again c =
-    let l = c .before .before .before .before .before .before .before .before .before .loop in
+    let l = c .before .before .before .before .before .before .before .before .before .before .loop in
     let s = c .before .before .before .before .before .before .next-unit in
     let m = c .before .before .before .before .check-unit-marks in
     let e = c .before .before .end .given .1 in
@@ -76,6 +82,7 @@ check-natural-spec =
     (tie.spec
     Inv-loop
     μ-loop
+    sample-requires
     first-unit-requires
     loop-holds
     has-unit-requires

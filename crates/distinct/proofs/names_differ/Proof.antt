@@ -18,15 +18,15 @@ Inv-loop entries count at₀ left₀ at left = (at ≤ length entries) × Walk e
 abbrev μ-loop : tie.MeasureT-loop
 μ-loop entries count at₀ left₀ at left = left
 
-first : (c : tie.After-end-of-arg Inv-loop μ-loop) → let p = c .before .before .before in let b = p .before .before .args .entries .now in
+first : (c : tie.After-entry-after-arg Inv-loop μ-loop) → let p = c .before .before .before in let b = p .before .before .args .entries .now in
     entriesFrom (c .before .block-size .result) (take (length b - p .loop .at) (drop (p .loop .at) b)) 0 .whole ≡ true
 first c =
     let p = c .before .before .before in
     block-first _ _ _ _ _ (p .loop .inv .0) (p .loop .inv .1) (c .before .block-size .ensures .1 .0) _ (rest-is (p .before .before .args .entries .now) (p .loop .at))
 
-next : (c : tie.After-end-of Inv-loop μ-loop) → let p = c .before .before .before .before in
-    Next _ _ _ _ _ (p .loop .inv .0) (p .loop .inv .1) (c .before .before .block-size .ensures .1 .0) _ (rest-is (p .before .before .args .entries .now) (p .loop .at)) (c .end-of .result)
-next c = next-block _ _ _ _ _ _ _ _ _ _ _ (c .end-of .ensures)
+next : (c : tie.After-entry-after Inv-loop μ-loop) → let p = c .before .before .before .before in
+    Next _ _ _ _ _ (p .loop .inv .0) (p .loop .inv .1) (c .before .before .block-size .ensures .1 .0) _ (rest-is (p .before .before .args .entries .now) (p .loop .at)) (c .entry-after .result)
+next c = next-block _ _ _ _ _ _ _ _ _ _ _ (c .entry-after .ensures)
 
 loop-holds : tie.Need-loop-holds Inv-loop μ-loop
 loop-holds c = (omega arith, record { whole = c .before .pre; same = refl })
@@ -34,17 +34,17 @@ loop-holds c = (omega arith, record { whole = c .before .pre; same = refl })
 block-size-requires : tie.Need-block-size-requires Inv-loop μ-loop
 block-size-requires c κs = search needs
 
-sub-end-of : tie.Need-sub-end-of Inv-loop μ-loop
-sub-end-of c = search needs
+sub-entry-after : tie.Need-sub-entry-after Inv-loop μ-loop
+sub-entry-after c = search needs
 
-part-end-of-start : tie.Need-part-end-of-start Inv-loop μ-loop
-part-end-of-start c = search needs
+part-entry-after-start : tie.Need-part-entry-after-start Inv-loop μ-loop
+part-entry-after-start c = search needs
 
-part-end-of-end : tie.Need-part-end-of-end Inv-loop μ-loop
-part-end-of-end c = search needs
+part-entry-after-end : tie.Need-part-entry-after-end Inv-loop μ-loop
+part-entry-after-end c = search needs
 
-end-of-requires : tie.Need-end-of-requires Inv-loop μ-loop
-end-of-requires c κs = first c
+entry-after-requires : tie.Need-entry-after-requires Inv-loop μ-loop
+entry-after-requires c κs = (omega arith, first c)
 
 sub-block-differs : tie.Need-sub-block-differs Inv-loop μ-loop
 sub-block-differs c = search needs
@@ -99,10 +99,10 @@ names-differ-spec =
     μ-loop
     loop-holds
     block-size-requires
-    sub-end-of
-    part-end-of-start
-    part-end-of-end
-    end-of-requires
+    sub-entry-after
+    part-entry-after-start
+    part-entry-after-end
+    entry-after-requires
     sub-block-differs
     part-block-differs-start
     part-block-differs-end

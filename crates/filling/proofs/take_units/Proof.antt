@@ -14,7 +14,7 @@ use Rattle.filling.proofs.take_units.Statement.{statement}
 use Rattle.filling.proofs.take_units.Tie as tie
 
 abbrev Inv-loop : tie.InvT-loop
-Inv-loop natural file index sheet by marks sizes₀ rows₀ excitation₀ decoded₀ voice walk₀ end₀ at₀ sizes rows excitation decoded walk end at =
+Inv-loop natural file index sheet by marks sizes₀ rows₀ excitation₀ decoded₀ voice sampled walk₀ end₀ at₀ sizes rows excitation decoded walk end at =
     let v = voiceOf file in
     let count = by .places .segments .count in
     UnitWalking (by .voice .header .frames) sheet count walk
@@ -22,17 +22,20 @@ Inv-loop natural file index sheet by marks sizes₀ rows₀ excitation₀ decode
     × (Held v decoded (at .front) × ((length sizes ≡ length sizes₀) × ((length rows ≡ length rows₀) × ((length excitation ≡ length excitation₀) × (length decoded ≡ length decoded₀))))))
 
 abbrev μ-loop : tie.MeasureT-loop
-μ-loop natural file index sheet by marks sizes₀ rows₀ excitation₀ decoded₀ voice walk₀ end₀ at₀ sizes rows excitation decoded walk end at = manyLeft walk
+μ-loop natural file index sheet by marks sizes₀ rows₀ excitation₀ decoded₀ voice sampled walk₀ end₀ at₀ sizes rows excitation decoded walk end at = manyLeft walk
+
+sample-requires : tie.Need-sample-requires Inv-loop μ-loop
+sample-requires c κs = let q = c .before .before .before .before .before .before .before .before .before .before .pre in (q .selects .places, q .some)
 
 first-unit-requires : tie.Need-first-unit-requires Inv-loop μ-loop
-first-unit-requires c κs = let q = c .before .before .before .before .before .before .before .before .before .before .pre in (q .selects .places, q .some)
+first-unit-requires c κs = let q = c .before .before .before .before .before .before .before .before .before .before .before .pre in (q .selects .places, q .some)
 
-cast-t18 : tie.Need-cast-t18 Inv-loop μ-loop
-cast-t18 c = search needs
+cast-t20 : tie.Need-cast-t20 Inv-loop μ-loop
+cast-t20 c = search needs
 
 loop-holds : tie.Need-loop-holds Inv-loop μ-loop
 loop-holds c =
-    let a = c .before .before .before .before .before .before .before .before .before .before .before .before in (
+    let a = c .before .before .before .before .before .before .before .before .before .before .before .before .before in (
       c .before .first-unit .ensures .walking _,
       (
         taking-first (a .args .natural) (a .args .file .now) (a .args .index .now) (a .args .sheet .now) (a .args .by) (a .args .marks .now) (lentPeriods (a .args .sizes .now) (a .args .rows .now) (a .args .excitation .now) (a .args .decoded .now)) _ (a .pre) (c .before .first-unit .ensures),
@@ -45,16 +48,19 @@ has-unit-requires c κs = search needs
 
 next-unit-requires : tie.Need-next-unit-requires Inv-loop μ-loop
 next-unit-requires c κs =
-    let q = c .before .before .before .before .before .before .before .before .before .before .before .before .before .before .before .pre in
-    (q .selects .searchable, (q .selects .places, (c .before .before .loop .inv .0, ltb-true 0 _ (sym (c .before .has-unit .ensures) ∙ c .if1 .taken))))
+    let l = c .before .before .before in
+    let q = l .before .before .before .before .before .before .before .before .before .before .before .before .before .before .pre in
+    (q .selects .searchable, (q .selects .places, (l .before .before .before .sample .ensures, (l .loop .inv .0, ltb-true 0 _ (sym (c .before .before .has-unit .ensures) ∙ c .before .if1 .taken)))))
 
 join-unit-requires : tie.Need-join-unit-requires Inv-loop μ-loop
-join-unit-requires c κs = (c .before .before .before .before .before .before .before .before .before .before .before .before .before .before .before .before .pre .selects .searchable .opened, (c .next-unit .ensures .inside, c .before .before .before .loop .inv .1 .0 .endLow))
+join-unit-requires c κs =
+    let l = c .before .before .before .before in
+    (l .before .before .before .before .before .before .before .before .before .before .before .before .before .before .pre .selects .searchable .opened, (c .next-unit .ensures .inside, l .loop .inv .1 .0 .endLow))
 
 take-unit-requires : tie.Need-take-unit-requires Inv-loop μ-loop
 take-unit-requires c κs =
-    let l = c .before .before .before .before .before .before .before .before in
-    let a = l .before .before .before .before .before .before .before .before .before .before .before .before .before in
+    let l = c .before .before .before .before .before .before .before .before .before in
+    let a = l .before .before .before .before .before .before .before .before .before .before .before .before .before .before in
     let n = c .before .before .before .before .before .next-unit in
     let j = c .before .before .before .before .join-unit in
     can-take (a .args .file .now) (a .args .by .voice) (a .pre .selects .searchable .opened) (a .args .natural) _ (l .loop .end) (l .loop .at) (a .args .marks .now) (l .loop .sizes) (l .loop .rows) (l .loop .excitation) (l .loop .decoded) _ (l .loop .inv .1 .0) (n .result .unit) _ (n .ensures .units) (j .result) (j .ensures) (n .ensures .inside) (l .loop .inv .1 .1 .0)
@@ -64,8 +70,8 @@ loop-less c = let e = c .before .before .before .before .before .before .before 
 
 loop-again : tie.Need-loop-again Inv-loop μ-loop
 loop-again c =
-    let l = c .before .before .before .before .before .before .before .before .before .before .before .before .before .before .before .before .before .before in
-    let a = l .before .before .before .before .before .before .before .before .before .before .before .before .before in
+    let l = c .before .before .before .before .before .before .before .before .before .before .before .before .before .before .before .before .before .before .before in
+    let a = l .before .before .before .before .before .before .before .before .before .before .before .before .before .before in
     let n = c .before .before .before .before .before .before .before .before .before .before .before .before .before .before .before .next-unit in
     let j = c .before .before .before .before .before .before .before .before .before .before .before .before .before .before .join-unit in
     let t = c .before .before .before .before .before .before .before .before .before .take-unit in
@@ -92,7 +98,7 @@ same-length-4 c = c .before .before .loop .inv .1 .1 .1 .1 .1 .1
 returns : tie.Need-returns Inv-loop μ-loop
 returns c =
     let l = c .before .before in
-    let a = l .before .before .before .before .before .before .before .before .before .before .before .before .before .args in
+    let a = l .before .before .before .before .before .before .before .before .before .before .before .before .before .before .args in
     let e = units-done (voiceOf (a .file .now)) (a .by .fold) (a .sheet .now) (a .by .places .segments .count) (l .loop .walk) (c .before .has-unit .result) (c .before .has-unit .ensures) (c .if1 .left) in
     taking-done (voiceOf (a .file .now)) (a .natural) _ (l .loop .end) (l .loop .at .taken) (l .loop .at .mark) _ (lentPeriods (l .loop .sizes) (l .loop .rows) (l .loop .excitation) (l .loop .decoded)) _ (l .loop .inv .1 .0) e
 
@@ -102,8 +108,9 @@ take-units-spec =
     (tie.spec
     Inv-loop
     μ-loop
+    sample-requires
     first-unit-requires
-    cast-t18
+    cast-t20
     loop-holds
     has-unit-requires
     next-unit-requires

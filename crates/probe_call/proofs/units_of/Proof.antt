@@ -1,6 +1,6 @@
-use mathlib.Core.Path.{sym}
-use mathlib.Core.Bool.{true≢false}
+use mathlib.Core.Path.{refl}
 use borrow.Author.Needs.{needs}
+use Rattle.units.proofs.AskedLaws.{holds-nothing}
 use Rattle.probe_call.proofs.units_of.Statement.{statement}
 use Rattle.probe_call.proofs.units_of.Tie as tie
 
@@ -8,7 +8,7 @@ slice-aggregate-store-units : tie.Need-slice-aggregate-store-units
 slice-aggregate-store-units c = search needs
 
 store-units-requires : tie.Need-store-units-requires
-store-units-requires c κs = (record { opened = c .before .before .before .before .before .pre .0; filled = λ e. absurd (true≢false (sym e)) }, c .before .before .before .before .before .pre .1)
+store-units-requires c κs = (record { opened = c .before .before .before .before .before .pre .0; holds = holds-nothing _ _ _ _ refl }, c .before .before .before .before .before .pre .1)
 
 same-length : tie.Need-same-length
 same-length c = search needs

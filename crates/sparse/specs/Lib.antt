@@ -1,0 +1,2 @@
+-- The root of sparse's definitions.
+pub mod Sparse
