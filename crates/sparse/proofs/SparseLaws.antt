@@ -78,7 +78,8 @@ module _ (bs : List ℕ) (count : ℕ) where
       pub places : (j : ℕ) → j < last + 1 → Begins bs count (stride * j) (u64At index j)
 
     -- the first, stored in a buffer e
-    pub spaced-first : (e : List ℕ) → d ≡ sets e 0 (bytesOf 8 0) → 8 ≤ length e → count ≤ stride * (length e / 8) → entriesFrom count bs 0 .whole ≡ true → 0 < count → Spaced d 0 0 count
+    pub spaced-first : (e : List ℕ) → d ≡ sets e 0 (bytesOf 8 0) → 8 ≤ length e → count ≤ stride * (length e / 8)
+        → entriesFrom count bs 0 .whole ≡ true → 0 < count → Spaced d 0 0 count
     spaced-first e f r q w h =
         let z : stride * 0 ≡ 0 = mul-zero stride in
         let b = subst (λ (n : ℕ). Begins bs count n 0) (sym z) (begins-first w h) in
@@ -123,8 +124,8 @@ module _ (bs : List ℕ) (count : ℕ) where
           let r = spaced-room l in
           let q = s .remain in
           let m : stride * last + stride ≡ stride * (last + 1) = rw (add-one, mul-suc) in
-          let b : Begins bs count (stride * (last + 1)) next =
-          subst (λ (k : ℕ). Begins bs count (stride * (last + 1)) k) (sym e) (subst (λ (k : ℕ). Begins bs count k (endOf stride bs at)) m (begins-more (stride * last) at (s .here) stride (omega arith))) in
+          let f : Begins bs count (stride * last + stride) (endOf stride bs at) = begins-more (stride * last) at (s .here) stride (omega arith) in
+          let b : Begins bs count (stride * (last + 1)) next = subst (Begins bs count (stride * (last + 1))) (sym e) (subst (λ (k : ℕ). Begins bs count k (endOf stride bs at)) m f) in
           record {
             long = length-sets index (8 * (last + 1)) (bytesOf 8 next) ∙ s .long;
             room = omega (arith, s .long);

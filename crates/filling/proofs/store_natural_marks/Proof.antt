@@ -48,8 +48,10 @@ next-unit-requires c κs =
 store-unit-marks-requires : tie.Need-store-unit-marks-requires Inv-loop μ-loop
 store-unit-marks-requires c κs =
     let l = c .before .before .before .before .before .before in
+    let a = l .before .before .before .before .before .before .before .before .before in
     let n = c .before .before .next-unit in
-    storing-unit (l .before .before .before .before .before .before .before .before .before .args .file .now) (l .before .before .before .before .before .before .before .before .before .args .by .voice) (l .before .before .before .before .before .before .before .before .before .pre .selects .searchable .opened) (l .loop .place) (l .loop .i) _ (l .loop .marks) _ (l .loop .inv .1 .0) (n .result .unit) _ (n .ensures .units) (n .ensures .inside)
+    storing-unit (a .args .file .now) (a .args .by .voice) (a .pre .selects .searchable .opened) (l .loop .place) (l .loop .i) _ (l .loop .marks) _ (l .loop .inv .1 .0)
+    (n .result .unit) _ (n .ensures .units) (n .ensures .inside)
 
 sub-i : tie.Need-sub-i Inv-loop μ-loop
 sub-i c = c .before .before .before .before .before .next-unit .ensures .inside .rising
@@ -57,9 +59,11 @@ sub-i c = c .before .before .before .before .before .next-unit .ensures .inside 
 add-i : tie.Need-add-i Inv-loop μ-loop
 add-i c =
     let l = c .before .before .before .before .before .before .before .before .before in
+    let a = l .before .before .before .before .before .before .before .before .before in
     let n = c .before .before .before .before .before .next-unit in
-    let r = storing-unit (l .before .before .before .before .before .before .before .before .before .args .file .now) (l .before .before .before .before .before .before .before .before .before .args .by .voice) (l .before .before .before .before .before .before .before .before .before .pre .selects .searchable .opened) (l .loop .place) (l .loop .i) _ (l .loop .marks) _ (l .loop .inv .1 .0) (n .result .unit) _ (n .ensures .units) (n .ensures .inside) .room in
-    omega (arith, r, l .loop .inv .1 .1, l .before .before .before .before .before .before .before .before .before .good .1 .1 .1 .1 .0 .0)
+    let u = storing-unit (a .args .file .now) (a .args .by .voice) (a .pre .selects .searchable .opened) (l .loop .place) (l .loop .i) _ (l .loop .marks) _ (l .loop .inv .1 .0)
+    (n .result .unit) _ (n .ensures .units) (n .ensures .inside) in
+    omega (arith, u .room, l .loop .inv .1 .1, a .good .1 .1 .1 .1 .0 .0)
 
 loop-less : tie.Need-loop-less Inv-loop μ-loop
 loop-less c = let e = c .before .before .before .before .before .before .next-unit .ensures .fewer in omega (arith, e)
@@ -67,11 +71,13 @@ loop-less c = let e = c .before .before .before .before .before .before .next-un
 loop-again : tie.Need-loop-again Inv-loop μ-loop
 loop-again c =
     let l = c .before .before .before .before .before .before .before .before .before .before in
+    let a = l .before .before .before .before .before .before .before .before .before in
     let n = c .before .before .before .before .before .before .next-unit in
     let t = c .before .before .before .store-unit-marks .ensures in (
       n .ensures .walking,
       (
-        storing-next (l .before .before .before .before .before .before .before .before .before .args .file .now) (l .before .before .before .before .before .before .before .before .before .args .by .voice) (l .before .before .before .before .before .before .before .before .before .pre .selects .searchable .opened) (l .loop .place) (l .loop .i) _ (l .loop .marks) _ (l .loop .inv .1 .0) (n .result .unit) _ (n .ensures .units) (n .ensures .inside) _ _ (t .0) (t .1),
+        storing-next (a .args .file .now) (a .args .by .voice) (a .pre .selects .searchable .opened) (l .loop .place) (l .loop .i) _ (l .loop .marks) _ (l .loop .inv .1 .0)
+            (n .result .unit) _ (n .ensures .units) (n .ensures .inside) _ _ (t .0) (t .1),
         ap length (t .1) ∙ simp length-sets (l .loop .inv .1 .1),
       ),
     )

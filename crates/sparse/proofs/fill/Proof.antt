@@ -40,8 +40,10 @@ loop-less c =
 
 loop-again : tie.Need-loop-again Inv-loop μ-loop
 loop-again c =
-    let l = c .before .before .before .before .before .before .loop in
-    rw (c .before .before .put-u642 .ensures) (spaced-more _ _ _ _ _ _ _ _ (l .inv) (omega arith) _ (c .before .before .before .before .entry-after .ensures .0) (omega (arith, c .before .before .before .before .entry-after .ensures .1)))
+    let e = c .before .before .before .before in
+    let l = e .before .before .loop in
+    let n = e .entry-after .ensures in
+    rw (c .before .before .put-u642 .ensures) (spaced-more _ _ _ _ _ _ _ _ (l .inv) (omega arith) _ (n .0) (omega (arith, n .1)))
 
 add-t16 : tie.Need-add-t16 Inv-loop μ-loop
 add-t16 c = omega (arith, c .before .loop .inv .room)
