@@ -9,7 +9,7 @@
  * little-endian; bytes past the last whole element of a buffer do not count. A function that refuses
  * leaves every buffer as it was. The processor must round to nearest and keep subnormal floats, as it
  * does unless a program sets it otherwise (a program linked with -ffast-math does). A thread that
- * calls them should have 64 KiB of stack left (58 KB were seen in a call; tests/c/stack.c measures it).
+ * calls them should have 64 KiB of stack left (59 KB were seen in a call; tests/c/stack.c measures it).
  */
 #ifndef DIPHONE_H
 #define DIPHONE_H
@@ -17,7 +17,7 @@
 #include <stddef.h>
 #include <stdint.h>
 
-#define DIPHONE_VERSION "1.0"
+#define DIPHONE_VERSION "1.1"
 
 #ifdef __cplusplus
 #define DIPHONE_RESTRICT
@@ -98,6 +98,25 @@ enum {
 uint32_t diphone_need(const uint8_t *DIPHONE_RESTRICT voice, size_t voice_len,
                       const uint8_t *DIPHONE_RESTRICT sheet, size_t sheet_len,
                       uint32_t settings, uint8_t *DIPHONE_RESTRICT need, size_t need_len);
+
+/* A line of a call's report: four numbers of 4 bytes each, for the pair, the half, the first sample and
+ * the size of a period. Pairs of adjacent segments count from 1; the half is 1 or 2; samples count from
+ * 0. */
+#define DIPHONE_REPORT_LINE_BYTES 16
+
+/* Tells for each period of a call which pair it belongs to, which half of it, where it begins and how
+ * long it is. It makes the call's checks and writes nothing but lines.
+ *
+ * Takes:   voice, sheet and settings as diphone_need does (the filter plays no part); lines,
+ *          DIPHONE_REPORT_LINE_BYTES for each period or more (diphone_need tells how many periods).
+ * Answers: 0; or 1 to 12 as diphone_need does; or 13 if lines is too short.
+ * Leaves:  on 0, in lines a line for each period, in their order; bytes past these as they were. Pair
+ *          and half are those of the unit that took the period's mark: unit by unit, the marks not yet
+ *          taken and not above its target end. A period begins where the one before it ends, and the
+ *          sizes, those that diphone_plan fills, add up to the samples of the call. */
+uint32_t diphone_report(const uint8_t *DIPHONE_RESTRICT voice, size_t voice_len,
+                        const uint8_t *DIPHONE_RESTRICT sheet, size_t sheet_len,
+                        uint32_t settings, uint8_t *DIPHONE_RESTRICT lines, size_t lines_len);
 
 /* What a call gave: six numbers of 8 bytes each, for samples per second, periods, samples, marks,
  * the order (row values a period) and entries of the index. */

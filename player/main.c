@@ -4,6 +4,7 @@
 #include "notes.h"
 #include "options.h"
 #include "refusal.h"
+#include "report.h"
 #include "speech.h"
 #include "writer.h"
 
@@ -60,7 +61,8 @@ static int close_output(FILE *stream)
     return fclose(stream) == 0 && !failed;
 }
 
-static void report(const struct speech *speech, const char *name)
+/* Says what a WAV file has. */
+static void tell(const struct speech *speech, const char *name)
 {
     fprintf(stderr, "%s: %.3f seconds, %llu samples at %llu a second, %llu periods\n", name,
             (double)speech->length / (double)speech->rate, (unsigned long long)speech->length,
@@ -100,22 +102,53 @@ static int write_speech(struct call *call)
     if (refusal != 0)
         return refuse(refusal, call);
     if (call->options->output == OUTPUT_WAV)
-        report(&call->speech, name);
+        tell(&call->speech, name);
     return 0;
+}
+
+/* Prints the report or the ends on standard output. */
+static int write_table(const struct call *call)
+{
+    struct phones phones;
+    struct flaw flaw;
+
+    if (read_phones(&phones, &call->sheet.bytes, &flaw) != 0)
+        return refuse(NO_MEMORY, call);
+    if (call->options->report)
+        print_report(stdout, &call->speech, &phones);
+    else
+        print_ends(stdout, &call->speech, &phones);
+    release_phones(&phones);
+    return close_output(stdout) ? 0 : fail("write", "standard output");
+}
+
+/* The engine's part: the plan, and the report where it is asked for. Answers 0, a refusal's number or
+   NO_MEMORY. */
+static uint32_t plan(struct call *call, int has_table)
+{
+    const struct bytes *voice = &call->voice.bytes, *sheet = &call->sheet.bytes;
+    uint32_t refusal = plan_speech(&call->speech, voice, sheet, call->options);
+
+    if (refusal == 0 && has_table)
+        refusal = report_speech(&call->speech, voice, sheet, call->options);
+    return refusal;
 }
 
 static int speak(struct call *call)
 {
-    uint32_t refusal =
-        plan_speech(&call->speech, &call->voice.bytes, &call->sheet.bytes, call->options);
-    int status;
+    int has_table = call->options->report || call->options->ends;
+    uint32_t refusal = plan(call, has_table);
+    int status = 0;
 
     if (refusal != 0) {
         status = refuse(refusal, call);
     } else {
         note_empty(&call->speech, &call->sheet, call->options);
         note_pairs(&call->speech, &call->voice, &call->sheet, call->options);
-        status = write_speech(call);
+        if (call->options->output != OUTPUT_NONE)
+            status = write_speech(call);
+        if (status == 0 && has_table)
+            status = write_table(call);
     }
     release_speech(&call->speech);
     return status;

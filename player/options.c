@@ -24,7 +24,7 @@ static const struct flag FILTERS[] = {{"fixed", DIPHONE_FILTER_FIXED},
 void print_usage(FILE *stream)
 {
     fputs("usage: player VOICE SHEET [--join none|simple|modified] [--filter fixed|float] [--fold]\n"
-          "              [--gain DB] [--raw | --wav FILE]\n"
+          "              [--gain DB] [--raw | [--report | --ends] [--wav FILE]]\n"
           "\n"
           "Speaks the call sheet SHEET with the voice file VOICE. A file named - is standard input;\n"
           "after -- every word is a file.\n"
@@ -35,9 +35,19 @@ void print_usage(FILE *stream)
           "  --wav     write a WAV file; with - on standard output\n"
           "  --raw     write 16-bit little-endian samples on standard output,\n"
           "            for: aplay -f S16_LE -r RATE\n"
+          "  --report  print a line for each period: its number, the number of its pair of phones (from\n"
+          "            1), which half of the pair's diphone (1 or 2), its first sample (from 0), its\n"
+          "            size, and the names of the two phones as the sheet has them\n"
+          "  --ends    print a line for each phone: its number, its name, the sample where the sheet\n"
+          "            ends it (time by rate, truncated, 0 below zero), and the sample where it really\n"
+          "            ends. That is the end of the last period of half 1 of the pair that begins with\n"
+          "            this phone; if that half took none, the end of the last period before it, or 0.\n"
+          "            The last phone begins no pair: it ends with the call\n"
           "  --help, --version\n"
-          "Without --wav and --raw the call is printed as text: a line with rate, periods and samples,\n"
-          "then for each period its number, its size and its samples. Reports and notes go to standard\n"
+          "Without --wav, --raw, --report and --ends the call is printed as text: a line with rate,\n"
+          "periods and samples, then for each period its number, its size and its samples. With --report\n"
+          "or --ends sound is written only to a file that --wav names. In their lines a backslash in a\n"
+          "name is doubled, and \\0 is the empty name. Notes, and what a WAV file has, go to standard\n"
           "error.\n"
           "\n"
           "Exit status: 0; 1 if the call is refused or a file cannot be read or written; 2 if the\n"
@@ -128,6 +138,10 @@ static int read_flag(struct options *options, const char *option)
         options->fold = DIPHONE_FOLD;
     else if (strcmp(option, "--raw") == 0)
         options->output = OUTPUT_RAW;
+    else if (strcmp(option, "--report") == 0)
+        options->report = 1;
+    else if (strcmp(option, "--ends") == 0)
+        options->ends = 1;
     else if (strcmp(option, "--help") == 0 || strcmp(option, "-h") == 0)
         options->task = TASK_HELP;
     else if (strcmp(option, "--version") == 0)
@@ -169,6 +183,24 @@ static int read_word(struct options *options, char **words, int *place)
     return read_file_name(options, word);
 }
 
+/* Whether the outputs make sense together; chooses what is written of the sound. */
+static int check_output(struct options *options)
+{
+    int table = options->report || options->ends;
+
+    if (options->wav != NULL && options->output == OUTPUT_RAW)
+        return complain("one of these only", "--raw, --wav");
+    if ((options->output == OUTPUT_RAW) + options->report + options->ends > 1)
+        return complain("one of these only", "--raw, --report, --ends");
+    if (table && options->wav != NULL && strcmp(options->wav, "-") == 0)
+        return complain("beside --report and --ends only a file can be written", "--wav -");
+    if (options->wav != NULL)
+        options->output = OUTPUT_WAV;
+    else if (table)
+        options->output = OUTPUT_NONE;
+    return 0;
+}
+
 /* Whether the words make sense together. */
 static int check_options(struct options *options)
 {
@@ -178,11 +210,7 @@ static int check_options(struct options *options)
         return complain("missing", options->voice == NULL ? "VOICE and SHEET" : "SHEET");
     if (strcmp(options->voice, "-") == 0 && strcmp(options->sheet, "-") == 0)
         return complain("one file only can be standard input", "-");
-    if (options->wav != NULL && options->output == OUTPUT_RAW)
-        return complain("one of these only", "--raw, --wav");
-    if (options->wav != NULL)
-        options->output = OUTPUT_WAV;
-    return 0;
+    return check_output(options);
 }
 
 int read_options(struct options *options, int count, char **words)

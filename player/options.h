@@ -5,7 +5,7 @@
 #include <stdint.h>
 #include <stdio.h>
 
-enum output { OUTPUT_LIST, OUTPUT_RAW, OUTPUT_WAV };
+enum output { OUTPUT_LIST, OUTPUT_RAW, OUTPUT_WAV, OUTPUT_NONE };
 
 /* What the player is asked for. */
 enum task { TASK_SPEAK, TASK_HELP, TASK_VERSION };
@@ -17,6 +17,7 @@ struct options {
     double gain;     /* in decibels */
     enum output output;
     const char *wav; /* the file of OUTPUT_WAV, or - for standard output */
+    int report, ends; /* whether this table is printed; not both are */
     enum task task;
 };
 

@@ -98,14 +98,26 @@ static int read_name(struct reader *reader, struct phone *phone)
     return 0;
 }
 
-/* Passes over a value. */
-static int read_value(struct reader *reader)
+/* The number of a whole value's word, or of a float's. */
+static float number_of(uint8_t kind, uint32_t word)
+{
+    float number;
+
+    if (kind == WHOLE)
+        return word <= INT32_MAX ? (float)word : -(float)(UINT32_MAX - word + 1);
+    memcpy(&number, &word, sizeof number);
+    return number;
+}
+
+/* Reads a value; an absent one is 0. */
+static int read_value(struct reader *reader, float *number)
 {
     size_t start = reader->place;
     const uint8_t *kind = take(reader, 1);
     const uint8_t *word;
     char reason[32];
 
+    *number = 0;
     if (kind == NULL)
         return -1;
     if (*kind == ABSENT)
@@ -119,6 +131,7 @@ static int read_value(struct reader *reader)
         return -1;
     if (*kind == FLOAT && (u32_at(word, 0) & 0x7F800000u) == 0x7F800000u)
         return refuse(reader, DIPHONE_NOT_FINITE, start, "a float that is not finite");
+    *number = number_of(*kind, u32_at(word, 0));
     return 0;
 }
 
@@ -134,7 +147,7 @@ static int read_segments(struct reader *reader, struct phones *phones)
         return refuse(reader, 0, 0, "no memory");
     phones->count = count;
     for (phone = phones->at; phone < phones->at + count; phone += 1)
-        if (read_name(reader, phone) != 0 || read_value(reader) != 0 ||
+        if (read_name(reader, phone) != 0 || read_value(reader, &phone->end) != 0 ||
             read_number(reader, count, "a follower", &phone->follower) != 0)
             return -1;
     return 0;
@@ -143,11 +156,12 @@ static int read_segments(struct reader *reader, struct phones *phones)
 static int read_targets(struct reader *reader)
 {
     uint32_t count;
+    float pos, f0; /* passed over */
 
     if (read_number(reader, MOST, "the target count", &count) != 0)
         return -1;
     for (; count > 0; count -= 1)
-        if (read_value(reader) != 0 || read_value(reader) != 0)
+        if (read_value(reader, &pos) != 0 || read_value(reader, &f0) != 0)
             return -1;
     if (reader->place < reader->sheet->length)
         return refuse(reader, DIPHONE_BAD_SHEET, reader->place, "bytes are left over");

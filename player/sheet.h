@@ -4,10 +4,11 @@
 
 #include "bytes.h"
 
-/* A segment's name, in the sheet's bytes, and its follower: a number from 1, or 0. */
+/* A segment's name, in the sheet's bytes, its end in seconds, and its follower: a number from 1, or 0. */
 struct phone {
     const uint8_t *name;
     size_t length;
+    float end;
     uint32_t follower;
 };
 

@@ -79,6 +79,15 @@ int64_t pull_period(struct speech *speech)
                         speech->length, speech->samples.at, speech->samples.length);
 }
 
+uint32_t report_speech(struct speech *speech, const struct bytes *voice, const struct bytes *sheet,
+                       const struct options *options)
+{
+    if (allocate(&speech->lines, speech->periods, DIPHONE_REPORT_LINE_BYTES) != 0)
+        return NO_MEMORY;
+    return diphone_report(voice->at, voice->length, sheet->at, sheet->length,
+                          settings_word(options), speech->lines.at, speech->lines.length);
+}
+
 void release_speech(struct speech *speech)
 {
     release(&speech->index);
@@ -88,4 +97,5 @@ void release_speech(struct speech *speech)
     release(&speech->excitation);
     release(&speech->decoded);
     release(&speech->samples);
+    release(&speech->lines);
 }

@@ -178,6 +178,14 @@ def number_of(value):
     return f32_from_bits(word) if kind == FLOAT else struct.unpack("<f", f32(word))[0]
 
 
+EMPTY_NAME = "\\0"
+
+
+def shown_name(name):
+    """A phone's name as one word: a backslash is doubled, the empty name is \\0."""
+    return name.decode("ascii").replace("\\", "\\\\") or EMPTY_NAME
+
+
 class Segment(NamedTuple):
     """A segment; the follower counts from 1, 0 is none."""
 

@@ -1,11 +1,12 @@
 //! What a call must show: where it is spoken by the Rust, where it is refused
 //! by document 01.
 
-use crate::call::{self, Settings};
+use crate::call::{self, Join, Settings};
 use crate::diphone::access;
 use crate::diphone::DiphoneVoice;
 use crate::dsp;
 use crate::lent::{Buffers, WIDTHS};
+use crate::period_report::{self, PeriodReport};
 use crate::reference::{self, Filled, Fitness, Parsed};
 use crate::refusal::Refusal;
 use crate::sheet::{self, Sheet};
@@ -34,6 +35,7 @@ pub struct Spoken {
     /// The elements that each buffer must have room for.
     pub needed: [usize; 6],
     pub periods: Vec<Vec<i16>>,
+    pub report: PeriodReport,
 }
 
 /// What a pull shows: its number, and every byte of its slice afterwards.
@@ -98,10 +100,18 @@ fn speak(
     };
     let filled = reference::fill(&rust, sheet, settings);
     assert_eq!(filled.marks, marks, "marks of the Rust and of document 01");
-    Some(spoken(voice, &rust, &filled, periods))
+    let simple = settings.join == Join::Simple;
+    let report = period_report::told(&filled, &periods, simple);
+    Some(spoken(voice, &rust, &filled, periods, report))
 }
 
-fn spoken(read: &Voice, rust: &DiphoneVoice, filled: &Filled, periods: Vec<Vec<i16>>) -> Spoken {
+fn spoken(
+    read: &Voice,
+    rust: &DiphoneVoice,
+    filled: &Filled,
+    periods: Vec<Vec<i16>>,
+    report: PeriodReport,
+) -> Spoken {
     let taken = &filled.taken;
     let lengths: Vec<usize> = periods.iter().map(Vec::len).collect();
     assert_eq!(taken.sizes, lengths, "sizes and lengths of the periods");
@@ -133,6 +143,7 @@ fn spoken(read: &Voice, rust: &DiphoneVoice, filled: &Filled, periods: Vec<Vec<i
             decoded(read, rust, filled),
         ],
         periods,
+        report,
     }
 }
 

@@ -7,6 +7,7 @@ use crate::diphone::DiphoneVoice;
 use crate::dsp;
 use crate::gen::sheets;
 use crate::gen::voices::{self, Extent, Vocabulary, VoiceSpec};
+use crate::period_report;
 use crate::reference::{self, Fitness, Parsed};
 use crate::refusal::{shown, Refusal, REFUSALS};
 use crate::report::Report;
@@ -15,6 +16,9 @@ use crate::sheet::{self, Sheet};
 use crate::voicefile::{self, Voice};
 
 const SHEETS_PER_VOICE: usize = 3;
+
+/// Units times marks of the calls whose marks are taken unit by unit.
+const MOST_TAKEN: usize = 4_000;
 
 /// What the cases covered.
 #[derive(Default)]
@@ -29,6 +33,9 @@ pub struct Counts {
     /// Pairs by the name found: the first tried, the second, none.
     pub found: [u64; 3],
     pub laws: u64,
+    /// Calls whose marks were taken unit by unit too, their lines, and those of
+    /// a unit before the one whose period made the mark.
+    pub told_twice: [u64; 3],
     /// Calls not handed to the Rust: time cannot advance, too many marks, long.
     pub guarded: [u64; 3],
 }
@@ -56,6 +63,27 @@ pub fn run(seed: u64, case: u64, report: &mut Report, counts: &mut Counts) {
         counts,
     };
     one.sheets(rng, &words, &spec, &old, &new);
+}
+
+/// A voice with periods without samples at the heads of its units, and a sheet.
+pub fn run_empty_heads(seed: u64, case: u64, report: &mut Report, counts: &mut Counts) {
+    let rng = &mut Rng::for_case(seed, 4_500_000 + case);
+    let words = voices::vocabulary(rng);
+    let spec = voices::voice(rng, &words, Extent::Any, true);
+    let spec = voices::with_empty_heads(rng, &spec);
+    let sheet = sheets::sheet(rng, &words, spec.header.rate);
+    let file = voices::file(&spec.sections());
+    let Some(voice) = Opened::new(&file, case, report) else {
+        return;
+    };
+    let mut one = Case {
+        case,
+        report,
+        counts,
+    };
+    for settings in Settings::all() {
+        one.speak(&voice, &sheet, settings);
+    }
 }
 
 /// A voice opened by both readers.
@@ -302,6 +330,7 @@ impl Case<'_> {
             let filled = reference::fill(&voice.rust, sheet, settings);
             self.compare_filled(voice, sheet, settings, marks, &filled);
             self.compare_periods(voice, settings, &periods, &filled);
+            self.compare_takers(voice, settings, &filled);
         }
         let join = JOINS.iter().position(|join| *join == settings.join)?;
         let filter = FILTERS
@@ -368,5 +397,34 @@ impl Case<'_> {
         self.report.check(again == periods.concat(), || {
             format!("case {case}: {settings:?}: samples of the filled buffers")
         });
+    }
+
+    /// The unit that took each mark, told twice by the Rust: by labels, and by
+    /// how many marks the call's first units take, for each number of units.
+    fn compare_takers(&mut self, voice: &Opened, settings: Settings, filled: &reference::Filled) {
+        let units = &filled.units;
+        let cost = units.len() * filled.marks.len();
+        if filled.marks.len() < 2 || cost > MOST_TAKEN {
+            return;
+        }
+        let takers = period_report::takers(filled);
+        let mut before = 0;
+        let mut again = Vec::new();
+        for count in 1..=units.len() {
+            let taken = access::build_excitation(&voice.rust, &units[..count], &filled.marks);
+            let more = taken.sizes.len() - before;
+            again.extend(vec![count - 1; more]);
+            before += more;
+        }
+        let case = self.case;
+        self.report.equal(&again, &takers, || {
+            format!("case {case}: {settings:?}: units that took the marks")
+        });
+        let simple = settings.join == Join::Simple;
+        let early = period_report::taking(filled, &takers, simple).early;
+        let more = [1, takers.len(), early];
+        for (sum, more) in self.counts.told_twice.iter_mut().zip(more) {
+            *sum += more as u64;
+        }
     }
 }

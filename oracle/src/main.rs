@@ -31,6 +31,7 @@ mod lines;
 mod marking;
 #[cfg(all(feature = "diphone_c", feature = "probe_call"))]
 mod openings;
+mod period_report;
 #[cfg(feature = "probe")]
 mod probe;
 #[cfg(feature = "probe_call")]
@@ -44,6 +45,7 @@ mod real;
 mod reference;
 mod refusal;
 mod report;
+mod report_examples;
 mod rng;
 mod selfcheck;
 mod sheet;

@@ -1,6 +1,7 @@
 //! Pseudo-random numbers from a seed (splitmix64), so that every run can be
 //! repeated.
 
+#[derive(Clone)]
 pub struct Rng {
     state: u64,
 }

@@ -11,6 +11,7 @@ use crate::good;
 use crate::reference::{self, Fitness, Parsed};
 use crate::refusal::{shown, Refusal, REFUSALS};
 use crate::report::Report;
+use crate::report_examples;
 use crate::rng::Rng;
 use crate::sheet;
 use crate::voicefile;
@@ -18,6 +19,9 @@ use crate::voicefile;
 /// Good cases (a voice, its extension, sheets and their calls) in a run that
 /// is not told otherwise.
 const CASES: u64 = 80;
+
+/// Voices with periods without samples at the heads of units.
+const EMPTY_HEADS: u64 = 40;
 
 /// Random voices and sheets that are damaged in every way.
 const DAMAGED_VOICES: u64 = 12;
@@ -44,8 +48,12 @@ pub fn run(args: &Args) -> bool {
     let mut counts = Counts::default();
     let mut good_counts = good::Counts::default();
     examples::run(&mut report);
+    report_examples::run(&mut report);
     for case in 0..args.count.unwrap_or(CASES) {
         good::run(args.seed, case, &mut report, &mut good_counts);
+    }
+    for case in 0..EMPTY_HEADS {
+        good::run_empty_heads(args.seed, case, &mut report, &mut good_counts);
     }
     check_voices(args.seed, &mut report, &mut counts);
     check_sheets(args.seed, &mut report, &mut counts);
@@ -238,6 +246,11 @@ fn print_calls(good: &good::Counts) {
          without units, {long} too long"
     );
     println!("  laws on longer sheets and extended voices: {}", good.laws);
+    let [calls, lines, early] = good.told_twice;
+    println!(
+        "  period reports told unit by unit too: {calls}, of {lines} lines, {early} of them of a \
+         unit before their own"
+    );
 }
 
 fn by_number(counts: &ByNumber) -> String {

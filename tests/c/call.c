@@ -1,5 +1,5 @@
-/* Makes document 01's example call through the C interface: what it needs, its plan, its pulls; then
- * calls and pulls that are refused. Ends with 0 if all is as it should be. */
+/* Makes document 01's example call through the C interface: what it needs, its plan, its pulls, its
+ * report; then calls and pulls that are refused. Ends with 0 if all is as it should be. */
 #define TEST "call"
 #include "example.h"
 
@@ -258,9 +258,86 @@ static void impossible_states(uint32_t order)
                      "rows cut within the next row");
 }
 
+/* ---- the report */
+
+static uint8_t lines[80];
+
+static uint32_t report(uint32_t settings, size_t lines_length)
+{
+    memset(lines, GUARD, sizeof lines);
+    return diphone_report(file, length, sheet, sheet_length, settings, lines_length > 0 ? lines : NULL,
+                          lines_length);
+}
+
+/* A report with this answer that leaves all. */
+static void untouched_report(uint32_t settings, size_t lines_length, uint32_t number, const char *what)
+{
+    expect(report(settings, lines_length) == number, what);
+    expect(all_guard(lines, 0, sizeof lines), what);
+}
+
+/* Two lines of four numbers, and nothing past them. */
+static void two_lines(const uint32_t *numbers, const char *what)
+{
+    for (size_t i = 0; i < 8; i += 1)
+        expect((uint32_t)u64_at(lines, 4 * i) == numbers[i], what);
+    expect(all_guard(lines, 2 * DIPHONE_REPORT_LINE_BYTES, sizeof lines), "bytes past the lines");
+}
+
+/* Document 02's lines, in every length that is long enough. */
+static void example_report(void)
+{
+    static const uint32_t numbers[8] = {1, 1, 0, 2, 1, 2, 2, 3};
+
+    for (size_t size = 0; size < 2 * DIPHONE_REPORT_LINE_BYTES; size += 1)
+        untouched_report(SIMPLE | FIXED, size, DIPHONE_SHORT_BUFFER, "lines too short for the report");
+    for (size_t size = 2 * DIPHONE_REPORT_LINE_BYTES; size <= sizeof lines; size += 1) {
+        expect(report(SIMPLE | FIXED, size) == 0, "the example is reported");
+        two_lines(numbers, "document 02's lines");
+    }
+    for (uint32_t filter = 0; filter <= 12; filter += 4) {
+        expect(report(SIMPLE | filter | DIPHONE_FOLD, sizeof lines) == 0, "any filter is reported");
+        two_lines(numbers, "the filter plays no part in the report");
+    }
+}
+
+/* Calls without a period have no line: no buffer, or one that is left. */
+static void empty_reports(void)
+{
+    example_sheet();
+    for (size_t size = 0; size <= sizeof lines; size += 16) {
+        untouched_report(NONE | FIXED, size, 0, "join none has no lines");
+        untouched_report(MODIFIED | FIXED, size, 0, "no mark, no line");
+    }
+    sheet_length = 0;
+    sheet_bytes("\x00\x00", 2);
+    untouched_report(SIMPLE | FIXED, 0, 0, "no segment, no line");
+    sheet_length = 0;
+    sheet_bytes("\x01\x01n\x02\x00\x00", 6);
+    untouched_report(SIMPLE | FIXED, 0, 0, "one segment, no line");
+    two_targets(0x42800000, 0x3D800000, 0x42800000);
+    untouched_report(MODIFIED | FIXED, 0, 0, "marks past the target ends, no line");
+}
+
+/* Of the marks 125, 250, 375, 500 the first half, up to 250, takes two, the second, up to 125, none. */
+static void modified_report(void)
+{
+    static const uint32_t numbers[8] = {1, 1, 0, 125, 1, 1, 125, 125};
+
+    segments(1, 0x3D000000);
+    sheet_bytes("\x02\x02\x01\x00\x00\x80\x42", 7);
+    value(1, 0x3D800000);
+    value(1, 0x42800000);
+    for (uint32_t join = MODIFIED; join <= 3; join += 1) {
+        expect(report(join, 32) == 0, "a modified join is reported");
+        two_lines(numbers, "the half that took the marks");
+        untouched_report(join, 31, DIPHONE_SHORT_BUFFER, "lines one byte short");
+    }
+}
+
 /* ---- refused calls */
 
-/* Need and plan refuse with this number whatever the buffers are, and leave all. */
+/* Need, plan and report refuse with this number whatever the buffers are, and leave all. */
 static void refused(uint32_t number, uint32_t join, const char *what)
 {
     for (size_t size = 0; size <= 256; size += 128) {
@@ -272,6 +349,8 @@ static void refused(uint32_t number, uint32_t join, const char *what)
     }
     expect(needs(join, 0) == number && needs(join, sizeof need) == number, what);
     expect(all_guard(need, 0, sizeof need), what);
+    untouched_report(join | FIXED, 0, number, what);
+    untouched_report(join | FIXED, sizeof lines, number, what);
 }
 
 /* Each buffer one byte short. */
@@ -347,6 +426,7 @@ static void unfit_calls(void)
     for (int i = 0; i < BUFFERS; i += 1)
         lengths[i] = 256;
     expect(plan(MODIFIED | FIXED) == DIPHONE_SHORT_BUFFER, "65,536 marks in 256 bytes");
+    untouched_report(MODIFIED, sizeof lines, DIPHONE_SHORT_BUFFER, "eight marks at sample 0 in five lines");
 }
 
 /* ---- other calls */
@@ -376,6 +456,18 @@ static void four_marks(void)
         expect(u32_at(MARKS, 4 * i) == 125 * (i + 1), "marks 125, 250, 375, 500");
     expect(six(lent[SUMMARY], 8000, 0, 0, 4, 0, 1), "four marks past the target ends");
     past(MARKS, 16);
+}
+
+/* The example's report in lines of just its length. */
+static void heap_report(const uint8_t *voice, size_t voice_length, const uint8_t *call, size_t call_length)
+{
+    uint8_t *heap = malloc(2 * DIPHONE_REPORT_LINE_BYTES);
+
+    expect(diphone_report(voice, voice_length, call, call_length, SIMPLE, heap,
+                          2 * DIPHONE_REPORT_LINE_BYTES) == 0,
+           "a report in lines of just their length");
+    expect(u64_at(heap, 24) == (2 | (uint64_t)3 << 32), "first sample and size of the last line");
+    free(heap);
 }
 
 /* Buffers of just their lengths: valgrind sees each byte read or written past them. */
@@ -408,6 +500,7 @@ static void from_the_heap(void)
         expect(given == 2 + period, "a period in a slice of just its length");
         free(slice);
     }
+    heap_report(heap[BUFFERS], sizes[BUFFERS], heap[BUFFERS + 1], sizes[BUFFERS + 1]);
     for (int i = 0; i < BUFFERS + 2; i += 1)
         free(heap[i]);
 }
@@ -421,6 +514,7 @@ static void g721(void)
     expect(plan(SIMPLE | FIXED) == 0, "a G.721 voice");
     expect(!all_guard(lent[DECODED], 0, 6), "the decode buffer is used");
     past(DECODED, 6);
+    example_report();
 }
 
 int main(void)
@@ -443,8 +537,11 @@ int main(void)
         }
         fills(entries, order);
         short_buffers();
+        example_report();
     }
     example(0, 0, 1);
+    empty_reports();
+    modified_report();
     no_join();
     four_marks();
     g721();

@@ -11,16 +11,16 @@
 
 enum { LIMIT = 64 * 1024, STACK = 256 * 1024, PAINT = 0xC3, LENT = 40960 };
 enum { INDEX, MARKS, SIZES, ROWS, EXCITATION, DECODED, STATE, SUMMARY, BUFFERS };
-enum { OPEN, NEED, PLAN, PULL, FUNCTIONS };
+enum { OPEN, NEED, PLAN, PULL, REPORT, FUNCTIONS };
 
-static const char *const names[FUNCTIONS] = {"open", "need", "plan", "pull"};
+static const char *const names[FUNCTIONS] = {"open", "need", "plan", "pull", "report"};
 static const size_t width[6] = {8, 4, 4, 2, 1, 1};
 
 /* Document 01's sheet: pau and aa, no end and no target; then aa, whose follower is pau. */
 static const uint8_t sheet[] = "\x03\x03pau\x02\x00\x02"
                                "aa\x02\x01\x02"
                                "aa\x02\x01";
-static uint8_t lent[BUFFERS][LENT], samples[LENT], need[DIPHONE_NEED_BYTES];
+static uint8_t lent[BUFFERS][LENT], samples[LENT], lines[LENT], need[DIPHONE_NEED_BYTES];
 static uint32_t settings;
 
 static int64_t call(int function)
@@ -39,6 +39,8 @@ static int64_t call(int function)
                             lent[MARKS], len[MARKS], lent[SIZES], len[SIZES], lent[ROWS], len[ROWS],
                             lent[EXCITATION], len[EXCITATION], lent[DECODED], len[DECODED], lent[STATE],
                             LENT, lent[SUMMARY], LENT);
+    case REPORT:
+        return diphone_report(file, length, sheet, sizeof sheet, settings, lines, LENT);
     default:
         return diphone_pull(lent[STATE], LENT, lent[SIZES], len[SIZES], lent[ROWS], len[ROWS],
                             lent[EXCITATION], len[EXCITATION], samples, LENT);

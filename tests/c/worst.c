@@ -8,9 +8,10 @@
 
 #include <time.h>
 
-enum { ENTRIES = 99000, SEGMENTS = 4096 };
+enum { ENTRIES = 99000, SEGMENTS = 4096, MARKS = 65536 };
 
-static uint8_t sheet[SEGMENTS * 8], index_buffer[8 * ENTRIES], report[DIPHONE_VOICE_BYTES];
+static uint8_t sheet[SEGMENTS * 9], index_buffer[8 * ENTRIES], record[DIPHONE_VOICE_BYTES];
+static uint8_t lines[DIPHONE_REPORT_LINE_BYTES * MARKS];
 static size_t sheet_length;
 
 static void put_u32(size_t at, uint32_t number)
@@ -49,9 +50,31 @@ static void sheet_of_consonants(void)
     sheet_length += 1;
 }
 
+static void sheet_bytes(const void *data, size_t count)
+{
+    memcpy(sheet + sheet_length, data, count);
+    sheet_length += count;
+}
+
+/* So many phones that end one after the other within a second, and 65,536 marks in it. */
+static void sheet_of_marks(void)
+{
+    static const uint8_t targets[] = {2, 2, 1, 0, 0, 0x80, 0x47, 1, 0, 0, 0x80, 0x3F, 1, 0, 0, 0x80, 0x47};
+
+    sheet_length = 0;
+    sheet_bytes("\x80\x20", 2);
+    for (int i = 0; i < SEGMENTS; i += 1) {
+        float end = (float)(i + 2) / SEGMENTS;
+        sheet_bytes("\x01k\x01", 3);
+        sheet_bytes(&end, 4);
+        sheet_bytes("", 1);
+    }
+    sheet_bytes(targets, sizeof targets);
+}
+
 static uint32_t opened(void)
 {
-    return diphone_open(file, length, index_buffer, sizeof index_buffer, report, sizeof report);
+    return diphone_open(file, length, index_buffer, sizeof index_buffer, record, sizeof record);
 }
 
 static uint32_t needed(void)
@@ -60,6 +83,16 @@ static uint32_t needed(void)
 
     return diphone_need(file, length, sheet, sheet_length, DIPHONE_JOIN_SIMPLE | DIPHONE_FILTER_FIXED, need,
                         sizeof need);
+}
+
+static uint32_t reported(void)
+{
+    return diphone_report(file, length, sheet, sheet_length, DIPHONE_JOIN_SIMPLE, lines, sizeof lines);
+}
+
+static uint32_t reported_by_targets(void)
+{
+    return diphone_report(file, length, sheet, sheet_length, DIPHONE_JOIN_MODIFIED, lines, sizeof lines);
 }
 
 static void within(double most, uint32_t (*call)(void), const char *what)
@@ -80,8 +113,14 @@ int main(void)
     sheet_of_consonants();
     voice_of(ENTRIES, 0);
     within(0.3, needed, "99,000 names in order are looked up for 4,095 pairs");
+    within(0.4, reported, "they are looked up for a report");
     voice_of(2, 0);
     within(0.1, needed, "4,096 followers are the last segment");
+    within(0.3, reported, "they are followed for a report");
+    sheet_of_marks();
+    within(0.3, reported_by_targets, "65,536 marks of 4,095 pairs are reported");
+    expect((uint32_t)u64_at(lines, sizeof lines - DIPHONE_REPORT_LINE_BYTES) == SEGMENTS - 1,
+           "the last pair took the last mark");
     if (failures == 0)
         printf("worst: passed\n");
     return failures != 0;

@@ -1,5 +1,8 @@
 """Tests of the player; the environment variable PLAYER names the program."""
+import bisect
 import hashlib
+import itertools
+import math
 import os
 import random
 import re
@@ -17,7 +20,7 @@ from pathlib import Path
 sys.path.insert(0, str(Path(__file__).resolve().parent.parent / "tools"))
 import cases
 from cases import EXAMPLES, NONE, REPO, Segment, Target, index_bytes, real, sheet, whole
-from formats import Header, Refused, read_sheet, voice_file
+from formats import Header, Refused, number_of, read_sheet, shown_name, voice_file
 
 PLAYER = os.environ["PLAYER"]
 VALGRIND = ["valgrind", "--quiet", "--leak-check=full", "--error-exitcode=99"] if shutil.which("valgrind") else None
@@ -149,6 +152,248 @@ def samples_of(done):
     status, raw, _ = done
     assert status == 0
     return struct.unpack(f"<{len(raw) // 2}h", raw)
+
+
+# ---- the report and the ends, by document 01
+
+
+def as_f32(number):
+    """The f32 nearest to a number; what is too large is infinite."""
+    try:
+        return struct.unpack("<f", struct.pack("<f", number))[0]
+    except OverflowError:
+        return math.copysign(math.inf, number)
+
+
+def samples_at(rate, time):
+    """A target end: a time in samples, truncated, 0 below zero, at most what 64 bits hold."""
+    place = as_f32(time * rate)
+    return 0 if place <= 0 else 2**64 - 1 if place >= 2**64 else int(place)
+
+
+def modified_ends(rate, segments):
+    """The target ends of each pair's two units, by the sheet's ends."""
+    times = [number_of(segment.end) for segment in segments]
+    return [samples_at(rate, time) for a, b in zip(times, times[1:]) for time in (a, as_f32(as_f32(a + b) / 2))]
+
+
+def simple_ends(halves):
+    """The same for halves that are lists of sizes, in the simple join."""
+    return list(itertools.accumulate(map(sum, halves)))
+
+
+def report_of(sizes, ends):
+    """Pair, half, first sample and size of each period: unit by unit, marks up to the target end are taken."""
+    lines, unit, first = [], 0, 0
+    for size in sizes:
+        while first + size > ends[unit]:
+            unit += 1
+        lines.append((unit // 2 + 1, unit % 2 + 1, first, size))
+        first += size
+    return lines
+
+
+def report_text(report, segments):
+    names = [shown_name(segment.name) for segment in segments]
+    rows = [(number, *line, *names[line[0] - 1 : line[0] + 1]) for number, line in enumerate(report, 1)]
+    return "".join(" ".join(map(str, row)) + "\n" for row in rows).encode()
+
+
+def ends_text(report, segments, rate):
+    """Each phone ends with the last period of its pair's first half, or else with the period before."""
+    halves, rows = [line[:2] for line in report], []
+    ends = [0] + [first + size for _, _, first, size in report]
+    for number, segment in enumerate(segments, 1):
+        last = ends[bisect.bisect_right(halves, (number, 1))]
+        rows.append(f"{number} {shown_name(segment.name)} {samples_at(rate, number_of(segment.end))} {last}\n")
+    return "".join(rows).encode()
+
+
+# Four names, whose halves have periods of these samples: some are empty, some have periods of no sample.
+HALVES = {
+    (b"a", b"a"): ([3, 0], [0, 4]),
+    (b"a", b"b"): ([], [0, 0]),
+    (b"b", b"a"): ([0], [5]),
+    (b"b", b"b"): ([7, 2, 0], []),
+}
+
+
+def voice_of_halves(rate):
+    sizes, entries = [], []
+    for (left, right), (first, second) in HALVES.items():
+        entries.append((left + b"-" + right, len(sizes), len(first), len(second)))
+        sizes += first + second
+    return voice_file(Header(rate=rate), [[]] * len(sizes), [bytes(size) for size in sizes], entries)
+
+
+def random_time(draw, most):
+    """An end of a phone: mostly a time, now and then absent, whole or below zero."""
+    kind = draw.randrange(12)
+    return NONE if kind == 0 else whole(draw.randrange(-1, 2)) if kind == 1 else real(draw.uniform(-0.1, most))
+
+
+def random_segments(draw, most):
+    return [Segment(draw.choice([b"a", b"b"]), random_time(draw, most)) for _ in range(draw.randrange(2, 9))]
+
+
+class Report(InFolder):
+    """--report and --ends, held to document 01 by the sizes that the player prints."""
+
+    def check(self, voice, call, *words, halves=None):
+        """Compares both tables of a call. Returns how many periods it has, or None if it is refused."""
+        status, text, message = run(voice, call, *words)
+        if status != 0:
+            for option in ("--report", "--ends"):
+                self.assertEqual(run(voice, call, option, *words), (1, b"", message))
+            return None
+        rows = [line.split(b" ", 2) for line in text.splitlines()]
+        rate, segments = int(rows[0][0]), read_sheet(call.read_bytes())[0]
+        ends = modified_ends(rate, segments) if halves is None else simple_ends(halves)
+        report = report_of([int(row[1]) for row in rows[1:]], ends)
+        self.same(run(voice, call, "--report", *words), (0, report_text(report, segments), message))
+        self.same(run(voice, call, "--ends", *words), (0, ends_text(report, segments, rate), message))
+        return len(report)
+
+    def same(self, done, expected):
+        """Line by line: unittest takes minutes to show how long texts differ."""
+        self.assertEqual(done[::2], expected[::2])
+        for line, other in itertools.zip_longest(done[1].splitlines(), expected[1].splitlines()):
+            self.assertEqual(line, other)
+
+    def test_document(self):
+        lines = b"1 1 1 0 2 pau aa\n2 1 2 2 3 pau aa\n"
+        self.assertEqual(run(*EXAMPLE, "--join", "simple", "--report"), (0, lines, ""))
+        self.assertEqual(run(*EXAMPLE, "--join", "simple", "--ends"), (0, b"1 pau 0 2\n2 aa 0 5\n", ""))
+
+    def test_fold_leaves_names(self):
+        call = self.file("call.sht", sheet([Segment(b"pau"), Segment(b"ah")]))
+        lines = b"1 1 1 0 2 pau ah\n2 1 2 2 3 pau ah\n"
+        self.assertEqual(run(EXAMPLE[0], call, "--join", "simple", "--fold", "--report"), (0, lines, ""))
+
+    def test_yard(self):
+        self.assertEqual(self.check(*YARD), 119)
+        self.assertEqual(self.check(*YARD, "--fold", "--filter", "float"), 119)
+        ends = run(*YARD, "--ends")[1].split()
+        self.assertEqual(ends[:8], b"1 pau 800 737 2 n 1520 1494".split())
+        self.assertEqual(ends[-4:], b"9 pau 8960 8377".split())
+
+    def test_simple_join(self):
+        """With empty halves, and with periods of no sample at the head of a unit."""
+        draw = random.Random(2)
+        voice = self.file("halves.flv", voice_of_halves(8000))
+        periods = 0
+        for _ in range(40):
+            segments = random_segments(draw, 0.01)
+            halves = [half for a, b in zip(segments, segments[1:]) for half in HALVES[a.name, b.name]]
+            call = self.file("call.sht", sheet(segments))
+            periods += self.check(voice, call, "--join", "simple", halves=halves)
+        self.assertGreater(periods, 200)
+
+    def test_modified_join(self):
+        """Ends that rise and fall, so that some units take no period."""
+        draw = random.Random(3)
+        voice = self.file("halves.flv", voice_of_halves(1000))
+        empty_halves = 0
+        for _ in range(60):
+            segments = random_segments(draw, 0.5)
+            times = sorted(draw.uniform(0, 0.6) for _ in range(3))
+            targets = [Target(real(time), real(draw.uniform(20, 300))) for time in times]
+            call = self.file("call.sht", sheet(segments, targets))
+            periods = self.check(voice, call)
+            if periods:
+                halves = {tuple(line.split()[1:3]) for line in run(voice, call, "--report")[1].splitlines()}
+                empty_halves += 2 * len(segments) - 2 - len(halves)
+        self.assertGreater(empty_halves, 60)
+
+    def test_large(self):
+        """A voice of megabytes and a sheet of 4,096 segments."""
+        draw = random.Random(4)
+        sizes = [draw.randrange(200, 900) for _ in range(5000)]
+        names = [f"p{number}".encode() for number in range(50)]
+        pairs = [(a, b) for a in names for b in names]
+        entries = [(a + b"-" + b, 2 * place, 1, 1) for place, (a, b) in enumerate(pairs)]
+        rows = [[0] * 16] * len(sizes)
+        voice = voice_file(Header(order=16, rate=16000), rows, [bytes([255]) * size for size in sizes], entries)
+        self.assertGreater(len(voice), 2_000_000)
+        segments = [Segment(draw.choice(names), real(number / 50)) for number in range(4096)]
+        places = [pairs.index((a.name, b.name)) for a, b in zip(segments, segments[1:])]
+        halves = [[size] for place in places for size in sizes[2 * place : 2 * place + 2]]
+        files = self.file("large.flv", voice), self.file("large.sht", sheet(segments))
+        self.assertEqual(self.check(*files, "--join=simple", halves=halves), 8190)
+
+    def test_no_period(self):
+        pair = [Segment(b"pau", real(0.5)), Segment(b"n", whole(1))]
+        lines = b"1 pau 4000 0\n2 n 8000 0\n"
+        for segments, words, ends in [
+            ([], (), b""),
+            (pair[:1], (), lines[:13]),
+            (pair, (), lines),
+            (pair, ("--join", "none"), lines),
+        ]:
+            call = self.file("call.sht", sheet(segments))
+            status, text, message = run(YARD[0], call, "--report", *words)
+            self.assertEqual((status, text), (0, b""))
+            self.assertIn("player: note: the call is empty: ", message)
+            self.assertEqual(run(YARD[0], call, "--ends", *words), (0, ends, message))
+
+    def test_sheet_ends(self):
+        """By the engine's rule for target ends, in the simple join too: f32, truncated, 0 below zero."""
+        times = {
+            NONE: 0,
+            whole(-3): 0,
+            real(-0.5): 0,
+            whole(3): 24000,
+            whole(2**31 - 1): 17179869184000,
+            real(0.0001249): 0,
+            real(0.7): 5600,  # 0.7 is rounded down, and the product up again
+            real(0.19): 1520,
+            real(1e30): samples_at(8000, as_f32(1e30)),
+            real(3e38): 2**64 - 1,
+        }
+        call = self.file("call.sht", sheet([Segment(b"n", time) for time in times]))
+        lines = run(YARD[0], call, "--ends", "--join=simple")[1].splitlines()
+        self.assertEqual([int(line.split()[2]) for line in lines], list(times.values()))
+        self.assertEqual(samples_at(8000, as_f32(1e30)), 2**64 - 1)
+
+    def test_names(self):
+        """Each name is one word, as tools/sheet writes it."""
+        call = self.file("call.sht", sheet([Segment(name) for name in (b"", b"\\0", b"a\\", b"#")]))
+        text = run(EXAMPLE[0], call, "--join=simple", "--ends")[1]
+        self.assertEqual([line.split()[1] for line in text.splitlines()], [b"\\0", b"\\\\0", b"a\\\\", b"#"])
+        text = run(EXAMPLE[0], call, "--join=simple", "--report")[1]
+        self.assertEqual(text.splitlines()[0], b"1 1 1 0 2 \\0 \\\\0")
+        self.assertEqual(text.splitlines()[-1], b"6 3 2 12 3 a\\\\ #")
+
+    def test_refusals(self):
+        """As without the options, and nothing else."""
+        voices, sheets = cases.unfit_voices(YARD[0].read_bytes()), [*cases.unfit_sheets(), *cases.unfit_calls()]
+        calls = [(self.file(f"{i}.flv", data), YARD[1]) for i, (_, _, data) in enumerate(voices)]
+        calls += [(YARD[0], self.file(f"{i}.sht", data)) for i, (_, _, data) in enumerate(sheets)]
+        seen = set()
+        for files in calls:
+            self.assertIsNone(self.check(*files))
+            seen.add(int(run(*files, "--report")[2].split()[2].rstrip(":")))
+        self.assertEqual(seen, set(range(1, 13)))
+
+    def test_wav(self):
+        """Sound is written where --wav names a file, as it is without the table."""
+        path, alone = self.folder / "both.wav", self.folder / "alone.wav"
+        run(*YARD, "--wav", alone, "--gain", "3")
+        for option in ("--report", "--ends"):
+            status, text, message = run(*YARD, option, "--wav", path, "--gain", "3")
+            self.assertEqual((status, text), (0, run(*YARD, option)[1]))
+            self.assertTrue(message.startswith(f"{path}: 1.047 seconds, "), message)
+            self.assertEqual(path.read_bytes(), alone.read_bytes())
+            path.unlink()
+            status, text, message = run(*YARD, option, "--wav", "/nowhere/at-all")
+            self.assertEqual((status, text), (1, b""))
+
+    @unittest.skipUnless(os.path.exists("/dev/full"), "no /dev/full")
+    def test_full_disk(self):
+        for option in ("--report", "--ends"):
+            with open("/dev/full", "wb") as full:
+                done = subprocess.run([PLAYER, *YARD, option], stdout=full, stderr=subprocess.PIPE, check=False)
+            self.assertEqual((done.returncode, done.stderr[:36]), (1, b"player: cannot write standard output"))
 
 
 class Notes(InFolder):
@@ -349,6 +594,14 @@ class CommandLine(unittest.TestCase):
             (voice, call, "--gain", "nan"),
             (voice, call, "--gain", "61"),
             (voice, call, "--fold=1"),
+            (voice, call, "--report", "--ends"),
+            (voice, call, "--report", "--raw"),
+            (voice, call, "--raw", "--ends"),
+            (voice, call, "--ends", "--wav", "-"),
+            (voice, call, "--report", "--wav=-"),
+            (voice, call, "--report=1"),
+            (voice, call, "--reports"),
+            (voice, "--ends"),
             ("-", "-"),
             (voice, "--", "--raw", call),
         ]:
@@ -388,10 +641,13 @@ class Memory(InFolder):
         unfit = self.file("unfit.sht", b"\x02")
         calls = [(*EXAMPLE, "--join", "simple"), (*EXAMPLE,), (*YARD, "--raw"), (*YARD, "--join", "none")]
         calls += [(*YARD, "--filter", "float", "--wav", self.folder / "yard.wav")]
+        for files in (EXAMPLE, YARD):
+            calls += [(*files, "--report"), (*files, "--ends", "--join=simple")]
+        calls += [(*YARD, "--report", "--wav", self.folder / "yard.wav"), (*YARD, "--ends", "--join=none")]
         for words in calls:
             self.assertEqual(run(*words, before=VALGRIND), run(*words), words)
         gap = self.file("gap.sht", sheet([Segment(b"n", NONE, 2), Segment(b"z"), Segment(b"q" * 32)]))
-        calls = [(YARD[0], unfit), (unfit, unfit), (YARD[0], "/nowhere/at-all"), ("--help",)]
+        calls = [(YARD[0], unfit), (unfit, unfit, "--ends"), (YARD[0], "/nowhere/at-all"), ("--help",)]
         for words in [*calls, (YARD[0], gap, "--join=simple"), (*YARD, "--raw", "--gain", "30")]:
             self.assertEqual(run(*words, before=VALGRIND), run(*words), words)
 

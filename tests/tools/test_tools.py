@@ -4,6 +4,7 @@ import contextlib
 import importlib.machinery
 import importlib.util
 import io
+import itertools
 import random
 import re
 import struct
@@ -125,6 +126,11 @@ class Formats(unittest.TestCase):
         found = {section.name: section for section in formats.sections_of(voice)}
         self.assertEqual(formats.header_of(found[b"sts.header"]), header._replace(frames=1))
         self.assertEqual(list(formats.entries_of(voice, found[b"dip.index"])), [(b"a-b", 513, 3, 4)])
+
+    def test_names(self):
+        names = {b"pau": "pau", b"": "\\0", b"\\0": "\\\\0", b"a\\": "a\\\\"}
+        for name, shown in names.items():
+            self.assertEqual(formats.shown_name(name), shown)
 
     def test_numbers(self):
         values = {whole(16777217): 16777216.0, NONE: 0.0, formats.real(0.1): 0.10000000149011612}
@@ -311,12 +317,22 @@ def spoken(samples, rate=8000, size=80):
     return lines + [" ".join(map(str, [number, len(period), *period])) for number, period in enumerate(periods, 1)]
 
 
-def long_call(seconds):
-    """A call of many short phones and targets."""
+def long_call(seconds, with_ends=False):
+    """A call of many short phones and targets; each phone really ends 80 samples early, but for the last."""
     numbers = range(seconds * 20)
     phones = [Segment(b"pau", formats.real(number * 0.05 + 0.05)) for number in numbers]
     targets = [Target(formats.real(number * 0.05), formats.real(100 + number % 7 / 3)) for number in numbers]
-    return DRAW.Call((phones, targets), spoken([32767, -32768] * (4000 * seconds)))
+    call = DRAW.Call((phones, targets), spoken([32767, -32768] * (4000 * seconds)))
+    if with_ends:
+        reached = [400 * number - 80 for number in range(1, seconds * 20)] + [8000 * seconds]
+        call.take_ends(phones, ends_text([b"pau"] * len(phones), reached))
+    return call
+
+
+def ends_text(names, reached):
+    """The ends of phones as the player prints them."""
+    lines = [b"%d %s 400 %d\n" % (number, name, end) for number, (name, end) in enumerate(zip(names, reached), 1)]
+    return b"".join(lines)
 
 
 class Draw(unittest.TestCase):
@@ -336,8 +352,8 @@ class Draw(unittest.TestCase):
 
     def test_nothing_leaves(self):
         """Points and boxes lie on the paper, waves within their bands, for the loudest samples too."""
-        for seconds, width in ((1, 960), (5, 300), (30, 2000)):
-            picture = self.drawn(long_call(seconds), width=width)
+        for seconds, width, ends in itertools.product((1, 5, 30), (960, 300, 2000), (False, True)):
+            picture = self.drawn(long_call(seconds, ends), width=width)
             right, bottom = int(picture.get("width")), int(picture.get("height"))
             self.assertEqual(right, width)
             tops = {}
@@ -353,9 +369,9 @@ class Draw(unittest.TestCase):
             self.assertTrue(all(abs(low - top - heights[seconds]) <= 0.2 for top, low in tops.items()), tops)
 
     def test_labels_apart(self):
-        for seconds in (1, 5, 30):
+        for seconds, ends in itertools.product((1, 5, 30), (False, True)):
             lines = collections.defaultdict(list)
-            for part in self.drawn(long_call(seconds)).iter("{http://www.w3.org/2000/svg}text"):
+            for part in self.drawn(long_call(seconds, ends)).iter("{http://www.w3.org/2000/svg}text"):
                 kind, x, length = part.get("class"), float(part.get("x")), DRAW.width_of(part.text, part.get("class"))
                 shift = 0 if "left" in kind else length if "right" in kind or "name" in kind else length / 2
                 lines[part.get("y")].append((x - shift, x - shift + length))
@@ -388,6 +404,62 @@ class Draw(unittest.TestCase):
         self.assertEqual(len(self.drawn(call).findall(".//*[@class='box']")), 2)
         other = DRAW.Call(formats.read_sheet(files[1]), ["8000 1 5", "1 5 0 0 0 0 0"], DRAW.Voice(files[0]))
         self.assertFalse(other.simple)
+
+    def test_ends(self):
+        """A box for each phone as spoken, with the sample where it ends, and a line there through the samples."""
+        sheet_read = formats.read_sheet(Path(YARD).read_bytes())
+        names = [segment.name for segment in sheet_read[0]]
+        call = DRAW.Call(sheet_read, spoken([100, -100] * 4400))
+        plain = DRAW.drawn(call, 0, call.length, 960, 0.05)
+        reached = [720, 1520, 3200, 3200, 4640, 5680, 6400, 7840, 8800]
+        call.take_ends(sheet_read[0], ends_text(names, reached))
+        picture = self.drawn(call, zoom=0.05)
+        right = lambda part: round(float(part.get("x")) + float(part.get("width")), 1)
+        boxes = [right(part) for part in picture if part.get("class") == "spoken"]
+        lines = [float(part.get("x1")) for part in picture if part.get("class") == "reached"]
+        scale = (960 - 15 - 80) / call.length / 8000
+        places = [80 + end * scale for end in sorted(set(reached))]
+        self.assertTrue(all(abs(a - b) < 0.11 for a, b in zip(boxes, places)), (boxes, places))
+        self.assertTrue(all(abs(a - b) < 0.06 for a, b in zip(lines, places)), (lines, places))
+        self.assertEqual((len(boxes), len(lines)), (8, 8 + 1))  # one within the periods that are drawn larger
+        texts = [part.text for part in picture if part.get("class") == "note right"]
+        self.assertEqual([text for text in texts if text in map(str, reached)], list(map(str, sorted(set(reached)))))
+        self.assertNotIn("reached", plain)
+        self.assertIn("dashed lines: by the sheet", "".join(picture.itertext()))
+
+    def test_ends_of_parts(self):
+        """In rows and in parts a phone's sample stands where it ends."""
+        for start, end in ((0, 30), (3.01, 4.31)):
+            picture = self.drawn(long_call(30, True), start, end, width=2000)
+            count = sum(start < (400 * number - 80) / 8000 <= end for number in range(1, 600)) + (end == 30)
+            self.assertEqual(len(picture.findall(".//*[@class='reached']")), count)
+
+    def test_wrong_ends(self):
+        """One line on standard error, with the file and what is wrong in it."""
+        names, reached = [segment.name for segment in formats.read_sheet(Path(YARD).read_bytes())[0]], [2] * 8 + [14]
+        good = ends_text(names, reached)
+        with tempfile.TemporaryDirectory() as folder:
+            path = Path(folder) / "call.ends"
+            path.write_bytes(good)
+            self.assertEqual(run_alone("draw", YARD, "--ends", str(path), given=SPOKEN)[::2], (0, ""))
+            for text, why in [
+                (b"", "it has 0 phones, not the 9 of the sheet"),
+                (good + b"10 pau 0 14\n", "it has 10 phones"),
+                (good.replace(b"2 n", b"2 m"), "line 2 is not phone 2, n, "),
+                (good.replace(b"3 ay", b"4 ay"), "line 3 is not phone 3, ay, "),
+                (good.replace(b"1 pau 400", b"1 pau 400 1"), "line 1 is not phone 1, pau, "),
+                (good.replace(b"2 n 400 2", b"2 n 400 3"), "line 2: 3 is not where a period of this call ends"),
+                (good.replace(b"2 n 400 2", b"2 n 400 4"), "line 3: 2 is not where "),
+                (good.replace(b"2 n 400 2", b"2 n 400 x"), "line 2: x is not where "),
+                (good.replace(b" 14", b" 12"), "its last phone ends at sample 12, the call at 14"),
+                (b"\xff" + good, "line 1 is not phone 1"),
+            ]:
+                path.write_bytes(text)
+                status, drawn, message = run_alone("draw", YARD, "--ends", str(path), given=SPOKEN)
+                self.assertEqual((status, drawn, message.count("\n")), (1, b"", 1), text)
+                self.assertTrue(message.startswith(f"draw: {path}: {why}"), message)
+            done = run_alone("draw", YARD, "--ends", folder + "/none", given=SPOKEN)
+            self.assertEqual(done, (1, b"", f"draw: {folder}/none: No such file or directory\n"))
 
     def test_files(self):
         """A picture beside which a PNG may stand, and none where no converter is."""

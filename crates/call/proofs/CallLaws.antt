@@ -28,9 +28,9 @@ use Rattle.units.specs.Units.{unitsOf, endRefusal}
 use Rattle.units.proofs.UnitLaws as units
 use Rattle.units.proofs.UnitLaws.{Within}
 use Rattle.marks.proofs.MarkLaws as marks
-use Rattle.excitation.specs.Taken.{Period, taken, sizesOf, rowsOf, excitationOf}
+use Rattle.excitation.specs.Taken.{Period, taken, sizesOf, rowsOf, excitationOf, total}
 use Rattle.excitation.proofs.TakenLaws.{taken-append, taken-same}
-use Rattle.excitation.proofs.SizedLaws.{Sized, taken-sized, total, sizes-total}
+use Rattle.excitation.proofs.SizedLaws.{Sized, taken-sized, sizes-total}
 use Rattle.lpc.specs.declared.ResynthType.{ResynthType}
 use Rattle.lpc.specs.Filter.{Part, cut}
 use Rattle.lpc.specs.State.{periodsBy}
@@ -42,7 +42,7 @@ use Rattle.call.specs.Call.{Plan, emptyPlan, simplePlan, modifiedPlan, p
 
 -- ---- what a call fills, cut up again, is the periods taken
 
-abbrev partOf : Period → Part
+abbrev pub partOf : Period → Part
 partOf p = record { row = p .row; bytes = p .bytes }
 
 cut-filled : (order : ℕ) (ps : List Period) → Sized order ps → cut order (sizesOf ps) (rowsOf ps) (excitationOf ps) ≡ map partOf ps
@@ -59,10 +59,10 @@ unfolding periodsTaken
 taken-total v s o = sizes-total (v .header .order) (periodsTaken v s o) (taken-sized v (planOf v s o .units) (planOf v s o .marks))
 
 -- the samples of taken periods
-soundOf : ResynthType → Float → Float → List Period → List (List ℕ)
+unfoldable pub soundOf : ResynthType → Float → Float → List Period → List (List ℕ)
 soundOf t least range ps = periodsBy t least range (map partOf ps)
 
-sound-is : (v : Voice) (s : Sheet) (o : Settings) → periodsOf v s o ≡ soundOf (o .filter) (v .header .«coeff_min») (v .header .«coeff_range») (periodsTaken v s o)
+pub sound-is : (v : Voice) (s : Sheet) (o : Settings) → periodsOf v s o ≡ soundOf (o .filter) (v .header .«coeff_min») (v .header .«coeff_range») (periodsTaken v s o)
 unfolding periodsOf periodsTaken soundOf
 sound-is v s o = ap (periodsBy (o .filter) (v .header .«coeff_min») (v .header .«coeff_range»)) (cut-filled (v .header .order) (periodsTaken v s o) (taken-sized v (planOf v s o .units) (planOf v s o .marks)))
 

@@ -16,9 +16,9 @@ use Rattle.units.specs.Units.{unitsOf}
 use Rattle.marks.specs.PitchMarks.{mostMarks}
 use Rattle.marks.specs.NaturalMarks.{naturalMarks}
 use Rattle.marks.proofs.CountLaws.{marks-most, refusal-most}
-use Rattle.excitation.specs.Taken.{Period, taken, sizesOf, excitationOf}
+use Rattle.excitation.specs.Taken.{Period, taken, sizesOf, excitationOf, total}
 use Rattle.excitation.proofs.CountLaws.{taken-most}
-use Rattle.excitation.proofs.SizedLaws.{total, sizes-total, taken-sized, taken-sizes}
+use Rattle.excitation.proofs.SizedLaws.{sizes-total, taken-sized, taken-sizes}
 use Rattle.call.specs.declared.JoinType.{JoinType}
 use Rattle.call.specs.declared.JoinType.the-variants.{None, Simple, ModifiedLpc}
 use Rattle.call.specs.declared.Settings.{Settings}

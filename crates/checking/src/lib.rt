@@ -101,19 +101,13 @@ fn check_natural(file: &[u8], index: &[u8], sheet: &[u8], by: Selection) -> Join
     })
 }
 
-// Room for 4,096 places.
-fn blank_index() -> [u8; 32768]
-    ensures { λ r. ⌜ length r ≡ 32768 ⌝ }
-{
-    [0; 32768]
-}
-
-// Makes the marks of the simple join. The call's index buffer is not filled yet; the check has one of
-// its own.
-fn check_simple(file: &[u8], sheet: &[u8], by: Selection) -> Joined
+// Makes the marks of the simple join. The call's index buffer is not filled yet; the check is lent
+// another one.
+fn check_simple(file: &[u8], sheet: &[u8], by: Selection, index: &mut [u8]) -> Joined
     requires { ⌜
         IsOpen (now file) (by .voice) ×
-        ((answerIn (sheetPlaces (now sheet)) ≡ SheetAnswer.Read (by .places)) × (0 < by .places .segments .count))
+        ((answerIn (sheetPlaces (now sheet)) ≡ SheetAnswer.Read (by .places)) ×
+        ((0 < by .places .segments .count) × (8 ≤ length (now index))))
         ⌝ }
     ensures { λ r.
         ⌜
@@ -125,15 +119,14 @@ fn check_simple(file: &[u8], sheet: &[u8], by: Selection) -> Joined
 {
     let voice = by.voice;
     let places = by.places;
-    let mut index = blank_index();
-    let held = units::holding::hold(file, voice, &mut index);
+    let held = units::holding::hold(file, voice, index);
     let found_by = Selection {
         voice: voice,
         held: held,
         places: places,
         fold: by.fold,
     };
-    check_natural(file, &index, sheet, found_by)
+    check_natural(file, index, sheet, found_by)
 }
 
 // Makes the target ends of the modified join, then its pitch marks, at a voice's rate.
@@ -174,10 +167,11 @@ fn no_marks() -> Joined
 }
 
 // The marks of two segments or more.
-fn check_join(file: &[u8], sheet: &[u8], by: Selection, join: JoinType) -> Joined
+fn check_join(file: &[u8], sheet: &[u8], by: Selection, join: JoinType, index: &mut [u8]) -> Joined
     requires { ⌜
         IsOpen (now file) (by .voice) ×
-        ((answerIn (sheetPlaces (now sheet)) ≡ SheetAnswer.Read (by .places)) × (0 < by .places .segments .count))
+        ((answerIn (sheetPlaces (now sheet)) ≡ SheetAnswer.Read (by .places)) ×
+        ((0 < by .places .segments .count) × (8 ≤ length (now index))))
         ⌝ }
     ensures { λ r.
         ⌜
@@ -189,7 +183,7 @@ fn check_join(file: &[u8], sheet: &[u8], by: Selection, join: JoinType) -> Joine
 {
     match join {
         JoinType::None => no_marks(),
-        JoinType::Simple => check_simple(file, sheet, by),
+        JoinType::Simple => check_simple(file, sheet, by, index),
         JoinType::ModifiedLpc => check_modified(sheet, by.places, by.voice.header.rate),
     }
 }
@@ -201,8 +195,12 @@ fn check_plan(
     sheet: &[u8],
     places: Places,
     settings: Settings,
+    index: &mut [u8],
 ) -> Joined
-    requires { ⌜ IsOpen (now file) d × (answerIn (sheetPlaces (now sheet)) ≡ SheetAnswer.Read places) ⌝ }
+    requires { ⌜
+        IsOpen (now file) d ×
+        ((answerIn (sheetPlaces (now sheet)) ≡ SheetAnswer.Read places) × (8 ≤ length (now index)))
+        ⌝ }
     ensures { λ r. ⌜ Joins (planOf (voiceOf (now (file .entry))) (sheetOf (now (sheet .entry))) settings) r ⌝ }
 {
     let segments = places.segments;
@@ -216,7 +214,7 @@ fn check_plan(
         fold: settings.fold,
     };
     let join = settings.join;
-    check_join(file, sheet, by, join)
+    check_join(file, sheet, by, join, index)
 }
 
 // What the buffers of a call with such marks need: fewer than two marks give no period.
@@ -252,11 +250,15 @@ fn check_marks(
     sheet: &[u8],
     places: Places,
     settings: Settings,
+    index: &mut [u8],
 ) -> Checked
-    requires { ⌜ IsOpen (now file) d × (answerIn (sheetPlaces (now sheet)) ≡ SheetAnswer.Read places) ⌝ }
+    requires { ⌜
+        IsOpen (now file) d ×
+        ((answerIn (sheetPlaces (now sheet)) ≡ SheetAnswer.Read places) × (8 ≤ length (now index)))
+        ⌝ }
     ensures { λ r. ⌜ r ≡ checkedOf (now (file .entry)) (now (sheet .entry)) settings ⌝ }
 {
-    match check_plan(file, d, sheet, places, settings) {
+    match check_plan(file, d, sheet, places, settings, index) {
         Joined::Refused(cause) => Checked::Refused(cause),
         Joined::Made(counts) => Checked::Passed(Fit {
             voice: d,
@@ -267,22 +269,64 @@ fn check_marks(
 }
 
 // Checks 8 to 12, of an open voice.
-fn check_sheet(file: &[u8], d: DiphoneVoice, sheet: &[u8], settings: Settings) -> Checked
-    requires { ⌜ IsOpen (now file) d ⌝ }
+fn check_sheet(
+    file: &[u8],
+    d: DiphoneVoice,
+    sheet: &[u8],
+    settings: Settings,
+    index: &mut [u8],
+) -> Checked
+    requires { ⌜ IsOpen (now file) d × (8 ≤ length (now index)) ⌝ }
     ensures { λ r. ⌜ r ≡ checkedOf (now (file .entry)) (now (sheet .entry)) settings ⌝ }
 {
     match sheet::read_sheet(sheet) {
         SheetAnswer::Refused(cause) => Checked::Refused(cause),
-        SheetAnswer::Read(places) => check_marks(file, d, sheet, places, settings),
+        SheetAnswer::Read(places) => check_marks(file, d, sheet, places, settings, index),
     }
+}
+
+// Checks 1 to 12, of any two files, with room for names that are looked up in a lent buffer.
+pub fn check_in(file: &[u8], sheet: &[u8], settings: Settings, index: &mut [u8]) -> Checked
+    requires { ⌜ 8 ≤ length (now index) ⌝ }
+    ensures { λ r. ⌜ r ≡ checkedOf (now (file .entry)) (now (sheet .entry)) settings ⌝ }
+{
+    match opening::check(file) {
+        Opened::Refused(cause) => Checked::Refused(cause),
+        Opened::Open(d) => check_sheet(file, d, sheet, settings, index),
+    }
+}
+
+// Room for 4,096 places.
+pub fn blank_index() -> [u8; 32768]
+    ensures { λ r. ⌜ length r ≡ 32768 ⌝ }
+{
+    [0; 32768]
+}
+
+// The check with an index buffer of its own.
+fn check_indexed(file: &[u8], sheet: &[u8], settings: Settings) -> Checked
+    ensures { λ r. ⌜ r ≡ checkedOf (now (file .entry)) (now (sheet .entry)) settings ⌝ }
+{
+    let mut index = blank_index();
+    check_in(file, sheet, settings, &mut index)
+}
+
+// The check with the least of room: for a join in which it looks up no name.
+fn check_bare(file: &[u8], sheet: &[u8], settings: Settings) -> Checked
+    ensures { λ r. ⌜ r ≡ checkedOf (now (file .entry)) (now (sheet .entry)) settings ⌝ }
+{
+    let mut index = [0u8; 8];
+    check_in(file, sheet, settings, &mut index)
 }
 
 // Checks 1 to 12, of any two files.
 pub fn check(file: &[u8], sheet: &[u8], settings: Settings) -> Checked
     ensures { λ r. ⌜ r ≡ checkedOf (now (file .entry)) (now (sheet .entry)) settings ⌝ }
 {
-    match opening::check(file) {
-        Opened::Refused(cause) => Checked::Refused(cause),
-        Opened::Open(d) => check_sheet(file, d, sheet, settings),
+    let join = settings.join;
+    match join {
+        JoinType::None => check_bare(file, sheet, settings),
+        JoinType::Simple => check_indexed(file, sheet, settings),
+        JoinType::ModifiedLpc => check_bare(file, sheet, settings),
     }
 }

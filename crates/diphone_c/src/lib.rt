@@ -5,6 +5,7 @@ ghost use lib.ListN.{length};
 ghost use Rattle.refusal.specs.Number.{answerOf};
 ghost use Rattle.call.specs.Numbers as numbers;
 ghost use Rattle.call.specs.Pull.{lentOf};
+ghost use Rattle.reporting.specs.Report as reports;
 ghost use Rattle.c_open.specs.Open as opens;
 ghost use Rattle.c_plan.specs.Plan as plans;
 ghost use Rattle.c_pull.specs.Pull as pulls;
@@ -87,6 +88,24 @@ pub extern "C" fn diphone_plan(
         state,
         summary,
     )
+}
+
+// Makes the report of a call: 0, or the number of the refusal.
+#[no_mangle]
+pub extern "C" fn diphone_report(voice: &[u8], sheet: &[u8], settings: u32, lines: &mut [u8]) -> u32
+    ensures { λ r.
+        ⌜
+        r ≡ answerOf
+        (reports.refusalOfReport (now (voice .entry)) (now (sheet .entry)) (numbers.settingsOf settings)
+        (length (now (lines .entry))))
+        ⌝ }
+    ensures { λ _.
+        ⌜
+        now (lines .exit) ≡
+        reports.linesLeft (now (voice .entry)) (now (sheet .entry)) (numbers.settingsOf settings) (now (lines .entry))
+        ⌝ }
+{
+    c_report::report_in_c(voice, sheet, settings, lines)
 }
 
 // Pulls the next period: how many samples it gave, -1 for done, or minus the number of the refusal.

@@ -19,9 +19,9 @@ use Rattle.marks.proofs.RiseLaws.{natural-rises}
 use Rattle.marks.proofs.UpToLaws.{natural-upTo}
 use Rattle.excitation.specs.Nearest.{paceOf}
 use Rattle.excitation.specs.Shares.{upToEnd, Share, shareOf, sharesFrom, shares, marksTaken, sizesFrom}
-use Rattle.excitation.specs.Taken.{Period, periodsOfShare, taken, sizesOf, rowsOf, excitationOf}
+use Rattle.excitation.specs.Taken.{Period, periodsOfShare, taken, sizesOf, rowsOf, excitationOf, total}
 use Rattle.excitation.proofs.ShareLaws.{take-upTo, front-rises, share-most, share-count, taken-none, taken-from, marks-taken, periods-sizes, sizes-by-marks}
-use Rattle.excitation.proofs.SizedLaws.{total, sizes-total, rows-length, share-sized, taken-sized}
+use Rattle.excitation.proofs.SizedLaws.{sizes-total, rows-length, share-sized, taken-sized}
 
 -- ---- of marks that do not fall
 

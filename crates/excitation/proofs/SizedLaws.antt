@@ -25,7 +25,7 @@ use Rattle.marks.proofs.LimitLaws.{Low}
 use Rattle.excitation.specs.Source.{sourceOf, centred}
 use Rattle.excitation.specs.Nearest.{nearestPeriod, paceOf, placeAfterSize}
 use Rattle.excitation.specs.Shares.{upToEnd, Share, shareOf, sharesFrom, shares}
-use Rattle.excitation.specs.Taken.{Period, periodOf, periodsOfMarks, periodsOfShare, taken, sizesOf, rowsOf, excitationOf}
+use Rattle.excitation.specs.Taken.{Period, periodOf, periodsOfMarks, periodsOfShare, taken, sizesOf, rowsOf, excitationOf, total}
 use Rattle.excitation.proofs.ShareLaws.{twoMarks}
 
 -- ---- in general, from what every mark is
@@ -108,10 +108,6 @@ rows-length order (p ∷ ps) (cons (l, m) s) =
     length-append (p .row) (rowsOf ps) ∙ simp (l, rows-length order ps s, suc-mul) (omega arith)
 
 -- 'Taken sizes sum to the excitation length'
-abbrev pub total : List ℕ → ℕ
-total [] = 0
-total (n ∷ ns) = n + total ns
-
 pub sizes-total : (order : ℕ) (ps : List Period) → Sized order ps → total (sizesOf ps) ≡ length (excitationOf ps)
 unfolding sizesOf excitationOf flat
 sizes-total order [] s = refl

@@ -1,7 +1,7 @@
 -- Document 01, 'Selecting and marking': the periods taken, one for each mark, and what they fill.
 use mathlib.Core.Bool.{false}
 use mathlib.Core.List.{List, [], _∷_, map}
-use Prim.Native.Nat.{ℕ, _-_}
+use Prim.Native.Nat.{ℕ, _+_, _-_}
 use lib.Dec.{ltb}
 use lib.IntN.{pos}
 use lib.Ieee.{Float, fin}
@@ -45,6 +45,11 @@ taken v us ms = flat (periodsOfShare v) (shares us ms)
 -- 'for the taken periods the sizes, the row of order values q each as stored, and the excitation'
 unfoldable pub sizesOf : List Period → List ℕ
 sizesOf ps = map (λ (p : Period). p .size) ps
+
+-- the sum of some sizes
+abbrev pub total : List ℕ → ℕ
+total [] = 0
+total (n ∷ ns) = n + total ns
 
 unfoldable pub rowsOf : List Period → List ℕ
 rowsOf ps = flat (λ (p : Period). p .row) ps

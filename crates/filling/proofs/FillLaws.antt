@@ -36,15 +36,15 @@ use Rattle.filling.proofs.PeriodLaws.{rows-count, fill-none, OverEach, 
 
 -- ---- the plan, by how many segments there are
 
-segment-count : (sheet : List ℕ) (p : Places) → answerIn (sheetPlaces sheet) ≡ Read p → length (sheetOf sheet .segments) ≡ p .segments .count
+pub segment-count : (sheet : List ℕ) (p : Places) → answerIn (sheetPlaces sheet) ≡ Read p → length (sheetOf sheet .segments) ≡ p .segments .count
 segment-count sheet p e =
     ahead-length (segment (p .segments .count)) sheet (p .segments .count) (p .segments .at) (sheetOf sheet .segments) (sheet-ahead sheet p e .segments)
 
-plan-few : (v : Voice) (s : Sheet) (o : Settings) → length (s .segments) < 2 → planOf v s o ≡ emptyPlan
+pub plan-few : (v : Voice) (s : Sheet) (o : Settings) → length (s .segments) < 2 → planOf v s o ≡ emptyPlan
 unfolding planOf
 plan-few v s o h = ap (λ (t : Bool). twoSegments t (planBy (o .join) v (folded (o .fold) (s .segments)) (s .targets))) (lt-ltb (length (s .segments)) 2 h)
 
-plan-some : (v : Voice) (s : Sheet) (o : Settings) → 2 ≤ length (s .segments) → planOf v s o ≡ planBy (o .join) v (folded (o .fold) (s .segments)) (s .targets)
+pub plan-some : (v : Voice) (s : Sheet) (o : Settings) → 2 ≤ length (s .segments) → planOf v s o ≡ planBy (o .join) v (folded (o .fold) (s .segments)) (s .targets)
 unfolding planOf
 plan-some v s o h = ap (λ (t : Bool). twoSegments t (planBy (o .join) v (folded (o .fold) (s .segments)) (s .targets))) (le-ltb (length (s .segments)) 2 h)
 

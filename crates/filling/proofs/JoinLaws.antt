@@ -7,6 +7,7 @@ use Prim.Native.Nat.{ℕ, zero, suc, _-_, _*_, _^_, _≤_, _<_}
 use native.Mathlib.Omega.{arith}
 use borrow.Author.Tests.{leb-true, le-leb}
 use lib.ListN.{length, take, getD, length-take}
+use lib.Seq.{take-all}
 use Rattle.base.specs.Buffers.{over, flat}
 use Rattle.base.specs.Bytes.{bytesOf, elements}
 use Rattle.base.proofs.ListLaws.{every-at, next-none}
@@ -35,7 +36,8 @@ use Rattle.call.specs.declared.JoinType.{JoinType}
 use Rattle.call.specs.declared.JoinType.the-variants.{None, Simple, ModifiedLpc}
 use Rattle.call.specs.Call.{simplePlan, modifiedPlan, planBy}
 use Rattle.call.proofs.FilledLaws.{by-low}
-use Rattle.filling.specs.Filling.{selected, planned, joinUnits, PeriodBuffers, fillPeriods, HasRoom, takenFrom, unitsTake, CanTakeUnits, joinTakes, isSimple, CanTakePeriods, CanJoin}
+use Rattle.filling.specs.Filling.{selected, planned, isSimple, CanStoreMarks, joinUnits, PeriodBuffers, fillPeriods, HasRoom, takenFrom}
+use Rattle.filling.specs.Filling.{unitsTake, CanTakeUnits, joinTakes, CanTakePeriods, CanJoin}
 use Rattle.filling.proofs.PeriodLaws.{fill-none}
 
 -- ---- the marks of a join
@@ -48,24 +50,24 @@ natural-low v place left (u ∷ us) d i all k =
     let l = le-leb (placeAfterUnit v place u) limit (units-low v place left u us d i all k) in
     rw l (natural-low v (placeAfterUnit v place u) (left - periodCount u) us _ _ all (units-storing v place left u us d i all k _ refl))
 
-open-rate : (file : List ℕ) → openingRefusal file ≡ none → (1 ≤ voiceOf file .header .rate) × (voiceOf file .header .rate ≤ 48000)
+pub open-rate : (file : List ℕ) → openingRefusal file ≡ none → (1 ≤ voiceOf file .header .rate) × (voiceOf file .header .rate ≤ 48000)
 unfolding goodNumbers goodHeader voiceOf voiceAt placesOf
 open-rate file e = let numbers = every-at _ (passed file e .header) 1 in (leb-true 1 _ (every-at _ numbers 2), leb-true _ 48000 (every-at _ numbers 3))
 
 module _ (v : Voice) (ss : List SegmentRead) (ts : List Target) where
-  join-rises : (j : JoinType) → 1 ≤ v .header .rate → v .header .rate ≤ 48000 → Rising 0 (planBy j v ss ts .marks)
+  pub join-rises : (j : JoinType) → 1 ≤ v .header .rate → v .header .rate ≤ 48000 → Rising 0 (planBy j v ss ts .marks)
   unfolding planBy simplePlan modifiedPlan
   join-rises None h l = tt
   join-rises Simple h l = natural-rises v 0 (unitsOf v ss)
   join-rises ModifiedLpc h l = marks-rise (v .header .rate) h (omega arith) ts
 
-  join-units : (j : JoinType) → 2 ≤ length (planBy j v ss ts .marks) → planBy j v ss ts .units ≡ joinUnits (isSimple j) v 0 (unitsOf v ss)
+  pub join-units : (j : JoinType) → 2 ≤ length (planBy j v ss ts .marks) → planBy j v ss ts .units ≡ joinUnits (isSimple j) v 0 (unitsOf v ss)
   unfolding planBy simplePlan modifiedPlan
   join-units None h = absurd (omega arith)
   join-units Simple h = refl
   join-units ModifiedLpc h = refl
 
-  join-low : (j : JoinType) → 2 ≤ length (planBy j v ss ts .marks) → planBy j v ss ts .refusal ≡ none → endRefusal (joinUnits (isSimple j) v 0 (unitsOf v ss)) ≡ none
+  pub join-low : (j : JoinType) → 2 ≤ length (planBy j v ss ts .marks) → planBy j v ss ts .refusal ≡ none → endRefusal (joinUnits (isSimple j) v 0 (unitsOf v ss)) ≡ none
   unfolding planBy simplePlan modifiedPlan
   join-low None h e = absurd (omega arith)
   join-low Simple h e =
@@ -76,7 +78,7 @@ module _ (v : Voice) (ss : List SegmentRead) (ts : List Target) where
 
 -- ---- stored and read again
 
-low-below : (ms : List ℕ) → Each Low ms → (i : ℕ) → getD ms i 0 < 256 ^ 4
+pub low-below : (ms : List ℕ) → Each Low ms → (i : ℕ) → getD ms i 0 < 256 ^ 4
 low-below [] nil i = omega arith
 low-below (m ∷ ms) (cons l e) zero = omega arith
 low-below (m ∷ ms) (cons l e) (suc i) = low-below ms e i
@@ -131,6 +133,23 @@ module _ (join : JoinType) (file index sheet : List ℕ) (by : Selection) (count
 
       pub units-taken : fillPeriods v 0 0 (unitsTake natural file sheet by (take (4 * count) marks)) b ≡ fillPeriods v 0 0 (joinTakes join file sheet by) b
       units-taken = ap (λ (t : Bool). fillPeriods v 0 0 (unitsTake t file sheet by (take (4 * count) marks)) b) q ∙ ap (λ (ps : List Period). fillPeriods v 0 0 ps b) same-periods
+
+-- all marks are stored
+pub can-marks : (join : JoinType) (file index sheet : List ℕ) (by : Selection) (count n : ℕ) (b : PeriodBuffers) → CanJoin join file index sheet by count n b
+    → CanStoreMarks join file index sheet by count n
+can-marks join file index sheet by count n b h =
+    record {
+      selects = h .marked .selects;
+      two = h .marked .two;
+      spoken = h .marked .spoken;
+      whole = λ e. omega (arith, h .counted);
+      room = omega (arith, h .counted, h .marked .room);
+    }
+
+pub all-marks : (join : JoinType) (file index sheet : List ℕ) (by : Selection) (count n : ℕ) (b : PeriodBuffers) → CanJoin join file index sheet by count n b
+    → (d : List ℕ) → let ms = planned join file sheet by .marks in over (flat (bytesOf 4) (take count ms)) d ≡ over (flat (bytesOf 4) ms) d
+all-marks join file index sheet by count n b h d =
+    ap (λ (ms : List ℕ). over (flat (bytesOf 4) ms) d) (take-all count (planned join file sheet by .marks) (omega (arith, h .counted)))
 
 -- the marks that were stored
 pub can-periods : (join : JoinType) (file index sheet : List ℕ) (by : Selection) (count : ℕ) (d marks : List ℕ) (b : PeriodBuffers)

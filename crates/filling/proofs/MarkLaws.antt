@@ -1,13 +1,13 @@
 -- The loop over units that stores the marks of the simple join.
-use mathlib.Core.Path.{_≡_, sym, ap, subst, _∙_}
+use mathlib.Core.Path.{_≡_, refl, sym, ap, subst, _∙_}
 use mathlib.Core.Bool.{Bool, false}
 use mathlib.Core.List.{List, [], _∷_}
 use Prim.Native.Nat.{ℕ, _+_, _-_, _*_, _≤_}
 use native.Mathlib.Omega.{arith}
 use borrow.Author.Tests.{ltb-false}
 use lib.Dec.{ltb}
-use lib.ListN.{length}
-use lib.Seq.{sets}
+use lib.ListN.{length, take}
+use lib.Seq.{sets, take-all, take-nil}
 use Rattle.base.specs.Buffers.{over, flat}
 use Rattle.base.specs.Bytes.{bytesOf}
 use Rattle.base.proofs.ListLaws.{next-none}
@@ -30,7 +30,7 @@ use Rattle.marks.specs.Checking.{CanStore, CanStoreUnit}
 use Rattle.marks.proofs.JoinLaws.{ofUnit, UnitsStoring, units-first, units-storing, units-stored, units-low, units-room}
 use Rattle.call.specs.declared.JoinType.the-variants.{None, Simple, ModifiedLpc}
 use Rattle.call.specs.Call.{simplePlan, modifiedPlan, planBy}
-use Rattle.filling.specs.Filling.{selected, planned, CanMark}
+use Rattle.filling.specs.Filling.{selected, planned, CanStoreMarks, CanMark}
 
 -- no unit is left
 pub units-done : (v : Voice) (fold : Bool) (sheet : List ℕ) (count : ℕ) (w : UnitWalk) (t : Bool) → t ≡ ltb 0 (manyLeft w) → t ≡ false → unitsLeft v fold sheet count w ≡ []
@@ -43,25 +43,31 @@ module _ (file index sheet : List ℕ) (by : Selection) (o : IsOpen file (by .vo
   unfolding planBy modifiedPlan
   marks-are = let e = header-is file (by .voice) (o .places) in ap (λ (h : VoiceHeader). pitchMarks (h .rate) (sheetOf sheet .targets) .marks) e
 
-  pub can-store : (n : ℕ) → CanMark ModifiedLpc file index sheet by n → CanStore sheet (by .places) (by .voice .header .rate) n
+  pub can-store : (count n : ℕ) → CanStoreMarks ModifiedLpc file index sheet by count n → CanStore sheet (by .places) (by .voice .header .rate) count n
   unfolding planBy modifiedPlan
-  can-store n h =
+  can-store count n h =
       let e = header-is file (by .voice) (o .places) in
-      let m = marks-are in
-      let r = h .room in
       record {
         places = h .selects .places;
         spoken = ap (λ (x : VoiceHeader). pitchMarks (x .rate) (sheetOf sheet .targets) .refusal) (sym e) ∙ next-none (endRefusal (selected file sheet by)) _ (h .spoken) .1;
-        room = rw m at r;
+        room = h .room;
       }
 
 -- ---- no join
 
-pub none-marked : (file sheet : List ℕ) (by : Selection) (d : List ℕ) → d ≡ over (flat (bytesOf 4) (planned None file sheet by .marks)) d
+pub none-marked : (file sheet : List ℕ) (by : Selection) (count : ℕ) (d : List ℕ) → d ≡ over (flat (bytesOf 4) (take count (planned None file sheet by .marks))) d
 unfolding planBy flat
-none-marked file sheet by d = sym (over-nil d)
+none-marked file sheet by count d = sym (ap (λ (ms : List ℕ). over (flat (bytesOf 4) ms) d) (take-nil count) ∙ over-nil d)
 
 -- ---- the simple join
+
+-- all marks are stored
+module _ (file index sheet : List ℕ) (by : Selection) (count : ℕ) where
+  pub can-all : (n : ℕ) → CanStoreMarks Simple file index sheet by count n → CanMark Simple file index sheet by n
+  can-all n h = record { selects = h .selects; two = h .two; spoken = h .spoken; room = omega (arith, h .whole refl, h .room) }
+
+  pub all-are : (n : ℕ) → CanStoreMarks Simple file index sheet by count n → planned Simple file sheet by .marks ≡ take count (planned Simple file sheet by .marks)
+  all-are n h = sym (take-all count (planned Simple file sheet by .marks) (h .whole refl))
 
 -- before the first unit
 pub storing-first : (file index sheet : List ℕ) (by : Selection) (d : List ℕ) (w : UnitWalk) → CanMark Simple file index sheet by (length d) → StartsUnits sheet (by .places .segments .count) w

@@ -57,7 +57,7 @@ join-natural natural v place u n t e = rw (t, e)
 pub join-kept : (natural : Bool) (v : Voice) (place : ℕ) (u : Unit) → natural ≡ false → u ≡ joinUnit natural v place u
 join-kept natural v place u t = rw t
 
-low-first : (u : Unit) (us : List Unit) → endRefusal (u ∷ us) ≡ none → (u .«target_end» ≤ limit) × (endRefusal us ≡ none)
+pub low-first : (u : Unit) (us : List Unit) → endRefusal (u ∷ us) ≡ none → (u .«target_end» ≤ limit) × (endRefusal us ≡ none)
 unfolding endRefusal
 low-first u us e = by (leb (u .«target_end») limit) refl e
   where

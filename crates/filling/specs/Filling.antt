@@ -46,7 +46,20 @@ pub record CanSelect (file index sheet : List ℕ) (by : Selection) : Type 0 whe
   pub searchable : Searchable file index by
   pub places : answerIn (sheetPlaces sheet) ≡ Read (by .places)
 
--- two segments or more, marks that are not refused, and room for them in n bytes
+abbrev pub isSimple : JoinType → Bool
+isSimple None = false
+isSimple Simple = true
+isSimple ModifiedLpc = false
+
+-- two segments or more, marks that are not refused, and room for `count` of them in n bytes; in the simple join these are all
+pub record CanStoreMarks (join : JoinType) (file index sheet : List ℕ) (by : Selection) (count n : ℕ) : Type 0 where
+  pub selects : CanSelect file index sheet by
+  pub two : 2 ≤ by .places .segments .count
+  pub spoken : planned join file sheet by .refusal ≡ none
+  pub whole : isSimple join ≡ true → length (planned join file sheet by .marks) ≤ count
+  pub room : 4 * count ≤ n
+
+-- the same for all of them
 pub record CanMark (join : JoinType) (file index sheet : List ℕ) (by : Selection) (n : ℕ) : Type 0 where
   pub selects : CanSelect file index sheet by
   pub two : 2 ≤ by .places .segments .count
@@ -110,11 +123,6 @@ pub record CanTakeUnits (natural : Bool) (file index sheet : List ℕ) (by : Sel
 
 abbrev pub joinTakes : JoinType → List ℕ → List ℕ → Selection → List Period
 joinTakes join file sheet by = taken (voiceOf file) (planned join file sheet by .units) (planned join file sheet by .marks)
-
-abbrev pub isSimple : JoinType → Bool
-isSimple None = false
-isSimple Simple = true
-isSimple ModifiedLpc = false
 
 -- the marks are stored, `count` of them, and there is room for the periods
 pub record CanTakePeriods (join : JoinType) (file index sheet : List ℕ) (by : Selection) (count : ℕ) (marks : List ℕ) (b : PeriodBuffers) : Type 0 where

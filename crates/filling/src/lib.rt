@@ -1,7 +1,7 @@
 // Fills the buffers of a call that was checked. A `requires` here is what the caller has tested.
 ghost use mathlib.Core.Path.{_≡_};
 ghost use Prim.Native.Nat.{_≤_};
-ghost use lib.ListN.{length};
+ghost use lib.ListN.{length, take};
 ghost use Rattle.base.specs.Buffers.{over, flat};
 ghost use Rattle.base.specs.Bytes.{bytesOf};
 ghost use Rattle.voice.specs.Voice.{voiceOf};
@@ -10,7 +10,7 @@ ghost use Rattle.sheet.specs.Sheet.{sheetOf};
 ghost use Rattle.units.specs.Units.{Inside};
 ghost use Rattle.call.specs.declared.JoinType.the-variants as joins;
 ghost use Rattle.call.specs.Buffers.{lent, filled, overAll};
-ghost use Rattle.filling.specs.Filling.{planned, CanMark, joinUnit, lentPeriods, fillPeriods, unitsTake};
+ghost use Rattle.filling.specs.Filling.{planned, CanStoreMarks, CanMark, joinUnit, lentPeriods, fillPeriods, unitsTake};
 ghost use Rattle.filling.specs.Filling.{CanTakeUnits, joinTakes, isSimple, CanTakePeriods, CanJoin, CanFill};
 use call::JoinType;
 use call::Need;
@@ -49,20 +49,21 @@ fn store_natural_marks(file: &[u8], index: &[u8], sheet: &[u8], by: Selection, m
     }
 }
 
-// Stores the marks of a join, four bytes each, at the front of a buffer.
-fn store_marks(
+// Stores the first `count` marks of a join, four bytes each, at the front of a buffer.
+pub fn store_marks(
     join: JoinType,
     file: &[u8],
     index: &[u8],
     sheet: &[u8],
     by: Selection,
+    count: usize,
     marks: &mut [u8],
 )
-    requires { ⌜ CanMark join (now file) (now index) (now sheet) by (length (now marks)) ⌝ }
+    requires { ⌜ CanStoreMarks join (now file) (now index) (now sheet) by count (length (now marks)) ⌝ }
     ensures { λ _.
         ⌜
         now (marks .exit) ≡
-        over (flat (bytesOf 4) (planned join (now (file .entry)) (now (sheet .entry)) by .marks))
+        over (flat (bytesOf 4) (take count (planned join (now (file .entry)) (now (sheet .entry)) by .marks)))
         (now (marks .entry))
         ⌝ }
 {
@@ -71,13 +72,13 @@ fn store_marks(
         JoinType::Simple => store_natural_marks(file, index, sheet, by, marks),
         JoinType::ModifiedLpc => {
             let places = by.places;
-            marks::store_marks(sheet, places, by.voice.header.rate, marks)
+            marks::store_marks(sheet, places, by.voice.header.rate, count, marks)
         }
     }
 }
 
 // The unit with its target end in a join: in the simple one it is where the unit naturally ends.
-fn join_unit(file: &[u8], d: DiphoneVoice, unit: Unit, natural: bool, end_before: usize) -> Unit
+pub fn join_unit(file: &[u8], d: DiphoneVoice, unit: Unit, natural: bool, end_before: usize) -> Unit
     requires { ⌜ IsOpen (now file) d × (Inside (d .header .frames) unit × («end_before» ≤ 16777215)) ⌝ }
     ensures { λ r. ⌜ r ≡ joinUnit natural (voiceOf (now (file .entry))) «end_before» unit ⌝ }
 {
@@ -145,7 +146,7 @@ fn take_units(
 }
 
 // Whether the units of a join end where they naturally do.
-fn is_simple(join: JoinType) -> bool
+pub fn is_simple(join: JoinType) -> bool
     ensures { λ r. ⌜ r ≡ isSimple join ⌝ }
 {
     match join {
@@ -229,7 +230,7 @@ fn fill_joined(
         (lentPeriods (now (sizes .entry)) (now (rows .entry)) (now (excitation .entry)) (now (decoded .entry))))
         ⌝ }
 {
-    store_marks(join, file, index, sheet, by, marks);
+    store_marks(join, file, index, sheet, by, count, marks);
     take_periods(
         join,
         file,

@@ -1,4 +1,4 @@
--- Document 01, 'Proved examples': the lines that its program prints, as bytes.
+-- Document 01, 'Proved examples': the lines that its program prints, as bytes; and the line of document 02's period report.
 use mathlib.Core.Path.{_≡_}
 use mathlib.Core.List.{List, [], _∷_, _++_}
 use Prim.Native.Nat.{ℕ, _+_, _-_, _/_, _%_}
@@ -44,6 +44,12 @@ summary rate periods samples = decimal rate ++ (32 ∷ (decimal periods ++ (32 �
 -- 'A refusal prints only `refused`, a space and the number'
 unfoldable pub refused : ℕ → List ℕ
 refused number = ascii "refused " ++ (decimal number ++ (10 ∷ []))
+
+-- document 02, A2: 'period number, pair, half, first sample counted from 0, size'
+unfoldable pub reportLine : ℕ → ℕ → ℕ → ℕ → ℕ → List ℕ
+reportLine number pair half first size =
+    decimal number
+    ++ (32 ∷ (decimal pair ++ (32 ∷ (decimal half ++ (32 ∷ (decimal first ++ (32 ∷ (decimal size ++ (10 ∷ [])))))))))
 
 -- the lines of periods, numbered from 1 on
 unfoldable pub periods : List (List ℕ) → List ℕ

@@ -41,6 +41,16 @@ fn put_number(n: u32, out: &mut [u8], at: usize) -> usize
     put_byte((n % 10 + 48) as u8, out, d)
 }
 
+// A blank and a number.
+fn put_field(n: u32, out: &mut [u8], at: usize) -> usize
+    requires { ⌜ (n < 100000) × (at + 6 ≤ length (now out)) ⌝ }
+    ensures { λ r. ⌜ lines.Puts (now (out .entry)) at (32 ∷ lines.decimal n) (now (out .exit)) r ⌝ }
+    ensures { λ r. ⌜ r ≤ at + 6 ⌝ }
+{
+    let next = put_byte(b' ', out, at);
+    put_number(n, out, next)
+}
+
 // A sample, given as its word.
 fn put_sample(word: u16, out: &mut [u8], at: usize) -> usize
     requires { ⌜ at + 6 ≤ length (now out) ⌝ }
@@ -95,10 +105,9 @@ pub fn put_period(number: u32, samples: &[u8], out: &mut [u8], at: usize) -> usi
     ensures { λ r. ⌜ r ≤ at + (7 * (length (now (samples .entry)) / 2) + 12) ⌝ }
 {
     let a = put_number(number, out, at);
-    let b = put_byte(b' ', out, a);
-    let c = put_number((samples.len() / 2) as u32, out, b);
-    let d = put_samples(samples, out, c);
-    put_byte(b'\n', out, d)
+    let b = put_field((samples.len() / 2) as u32, out, a);
+    let c = put_samples(samples, out, b);
+    put_byte(b'\n', out, c)
 }
 
 // The first line: rate, periods, samples.
@@ -108,10 +117,36 @@ pub fn put_summary(rate: u32, periods: u32, samples: u32, out: &mut [u8]) -> usi
     ensures { λ r. ⌜ r ≤ 18 ⌝ }
 {
     let a = put_number(rate, out, 0);
-    let b = put_byte(b' ', out, a);
-    let c = put_number(periods, out, b);
-    let d = put_byte(b' ', out, c);
-    let e = put_number(samples, out, d);
+    let b = put_field(periods, out, a);
+    let c = put_field(samples, out, b);
+    put_byte(b'\n', out, c)
+}
+
+// The line of a period in a report: its number, its pair, its half, its first sample, its size.
+pub fn put_report_line(
+    number: u32,
+    pair: u32,
+    half: u32,
+    first: u32,
+    size: u32,
+    out: &mut [u8],
+    at: usize,
+) -> usize
+    requires { ⌜
+        ((number < 100000) × ((pair < 100000) × ((half < 100000) × ((first < 100000) × (size < 100000))))) ×
+        (at + 30 ≤ length (now out))
+        ⌝ }
+    ensures { λ r.
+        ⌜
+        lines.Puts (now (out .entry)) at (lines.reportLine number pair half first size) (now (out .exit)) r
+        ⌝ }
+    ensures { λ r. ⌜ r ≤ at + 30 ⌝ }
+{
+    let a = put_number(number, out, at);
+    let b = put_field(pair, out, a);
+    let c = put_field(half, out, b);
+    let d = put_field(first, out, c);
+    let e = put_field(size, out, d);
     put_byte(b'\n', out, e)
 }
 

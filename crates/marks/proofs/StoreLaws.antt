@@ -2,10 +2,10 @@
 use mathlib.Core.Path.{_≡_, refl, sym, ap, subst, _∙_}
 use mathlib.Core.List.{List, [], _∷_}
 use mathlib.Core.Option.{none, some}
-use Prim.Native.Nat.{ℕ, _+_, _-_, _*_, _≤_, _<_}
+use Prim.Native.Nat.{ℕ, suc, _+_, _-_, _*_, _≤_, _<_}
 use native.Mathlib.Omega.{arith}
-use lib.ListN.{length}
-use lib.Seq.{sets, length-sets}
+use lib.ListN.{length, take, length-take}
+use lib.Seq.{sets, length-sets, take-nil}
 use Rattle.base.specs.Buffers.{flat, over}
 use Rattle.base.specs.Bytes.{bytesOf}
 use Rattle.base.proofs.BufferLaws.{sets-append, sets-over, length-flat}
@@ -56,12 +56,18 @@ store-all d ms h =
 
 -- ---- one turn of the walk
 
-pub record Storing (sheet : List ℕ) (w : Walk) (d : List ℕ) (i : ℕ) (all : List ℕ) : Type 0 where
+-- those before number `count` are still to store
+pub record Storing (sheet : List ℕ) (count : ℕ) (w : Walk) (d : List ℕ) (i : ℕ) (all : List ℕ) : Type 0 where
   pub spoken : coming sheet w .refusal ≡ none
-  pub stores : Stores d i (coming sheet w .marks) all
+  pub stores : Stores d i (take (count - i) (coming sheet w .marks)) all
   pub ahead : Reads sheet w
 
-module _ (sheet : List ℕ) (w : Walk) (d : List ℕ) (i : ℕ) (all : List ℕ) (k : Storing sheet w d i all) (s : Step) (t : Steps sheet w s) where
+pub storing-all : (sheet : List ℕ) (count : ℕ) (w : Walk) (d : List ℕ) (i : ℕ) (all : List ℕ) → Storing sheet count w d i all → count ≤ i → d ≡ all
+storing-all sheet count w d i all k h =
+    let z : count - i ≡ 0 = omega arith in
+    store-none d i all (subst (λ (n : ℕ). Stores d i (take n (coming sheet w .marks)) all) z (k .stores))
+
+module _ (sheet : List ℕ) (count : ℕ) (w : Walk) (d : List ℕ) (i : ℕ) (all : List ℕ) (k : Storing sheet count w d i all) (s : Step) (t : Steps sheet w s) where
   begins : (e : Event) → s .event ≡ e → coming sheet w ≡ beginning e (coming sheet (s .walk))
   begins e q = t .is ∙ ap (λ (x : Event). beginning x (coming sheet (s .walk))) q
 
@@ -72,20 +78,24 @@ module _ (sheet : List ℕ) (w : Walk) (d : List ℕ) (i : ℕ) (all : List ℕ)
       omega arith
 
   pub storing-done : s .event ≡ Done → d ≡ all
-  storing-done q = store-none d i all (subst (λ (m : Made). Stores d i (m .marks) all) (begins Done q) (k .stores))
+  storing-done q =
+      store-none d i all
+      (subst (λ (ms : List ℕ). Stores d i ms all) (ap (λ (m : Made). take (count - i) (m .marks)) (begins Done q) ∙ take-nil (count - i)) (k .stores))
 
-  module _ (m : ℕ) (q : s .event ≡ Mark m) where
-    to-store : Stores d i (m ∷ coming sheet (s .walk) .marks) all
-    to-store = subst (λ (m : Made). Stores d i (m .marks) all) (begins (Mark m) q) (k .stores)
+  module _ (l : i < count) (m : ℕ) (q : s .event ≡ Mark m) where
+    to-store : Stores d i (m ∷ take (count - (i + 1)) (coming sheet (s .walk) .marks)) all
+    to-store =
+        let n : count - i ≡ suc (count - (i + 1)) = omega arith in
+        subst (λ (ms : List ℕ). Stores d i ms all) (ap (λ (k : ℕ). take k (coming sheet w .marks)) n ∙ ap (λ (m : Made). take (suc (count - (i + 1))) (m .marks)) (begins (Mark m) q)) (k .stores)
 
     pub storing-room : 4 * i + 4 ≤ length d
     storing-room = let r = to-store .room in omega arith
 
-    pub storing-mark : (d₁ : List ℕ) → d₁ ≡ sets d (4 * i) (bytesOf 4 m) → Storing sheet (s .walk) d₁ (i + 1) all × (length d₁ ≡ length d)
+    pub storing-mark : (d₁ : List ℕ) → d₁ ≡ sets d (4 * i) (bytesOf 4 m) → Storing sheet count (s .walk) d₁ (i + 1) all × (length d₁ ≡ length d)
     storing-mark d₁ e = (
       record {
         spoken = ap (λ (m : Made). m .refusal) (sym (begins (Mark m) q)) ∙ k .spoken;
-        stores = subst (λ (l : List ℕ). Stores l (i + 1) (coming sheet (s .walk) .marks) all) (sym e) (store-one d i m _ all to-store);
+        stores = subst (λ (l : List ℕ). Stores l (i + 1) (take (count - (i + 1)) (coming sheet (s .walk) .marks)) all) (sym e) (store-one d i m _ all to-store);
         ahead = t .ahead;
       },
       ap length e ∙ simp length-sets,
@@ -93,15 +103,20 @@ module _ (sheet : List ℕ) (w : Walk) (d : List ℕ) (i : ℕ) (all : List ℕ)
 
 -- ---- all turns
 
-pub storing-first : (sheet : List ℕ) (p : Places) (rate : ℕ) (w : Walk) (d : List ℕ) → CanStore sheet p rate (length d) → w ≡ freshWalk p rate
-    → Storing sheet w d 0 (over (flat (bytesOf 4) (pitchMarks rate (sheetOf sheet .targets) .marks)) d)
-storing-first sheet p rate w d h f =
+pub storing-first : (sheet : List ℕ) (p : Places) (rate count : ℕ) (w : Walk) (d : List ℕ) → CanStore sheet p rate count (length d) → w ≡ freshWalk p rate
+    → Storing sheet count w d 0 (over (flat (bytesOf 4) (take count (pitchMarks rate (sheetOf sheet .targets) .marks))) d)
+storing-first sheet p rate count w d h f =
     let made = pitchMarks rate (sheetOf sheet .targets) in
+    let ms = take count (made .marks) in
+    let l = length-take count (made .marks) in
+    let z : count ≡ count - 0 = omega arith in
     let c = fresh-coming sheet p rate w (h .places) f in
     let e : made ≡ coming sheet w = sym (c .0) in
     record {
       spoken = ap (λ (m : Made). m .refusal) (c .0) ∙ h .spoken;
-      stores = subst (λ (m : Made). Stores d 0 (m .marks) (over (flat (bytesOf 4) (made .marks)) d)) e (store-all d (made .marks) (h .room));
+      stores =
+          subst (λ (ms₁ : List ℕ). Stores d 0 ms₁ (over (flat (bytesOf 4) ms) d)) (ap (λ (m : Made). take count (m .marks)) e ∙ ap (λ (n : ℕ). take n (coming sheet w .marks)) z)
+          (store-all d ms (omega (arith, h .room)));
       ahead = c .1;
     }
 

@@ -55,11 +55,11 @@ abbrev pub tallied : Tally → ℕ → Bool → Tally
 tallied t m true = record { taking = true; count = t .count + 1; taken = t .taken + 1; last = m }
 tallied t m false = record { taking = false; count = t .count + 1; taken = t .taken; last = t .last }
 
--- the sheet was read, its marks are not refused, and they fit n bytes, four each
-pub record CanStore (sheet : List ℕ) (p : Places) (rate n : ℕ) : Type 0 where
+-- the sheet was read, its marks are not refused, and `count` of them fit n bytes, four each
+pub record CanStore (sheet : List ℕ) (p : Places) (rate count n : ℕ) : Type 0 where
   pub places : answerIn (sheetPlaces sheet) ≡ Read p
   pub spoken : pitchMarks rate (sheetOf sheet .targets) .refusal ≡ none
-  pub room : 4 * length (pitchMarks rate (sheetOf sheet .targets) .marks) ≤ n
+  pub room : 4 * count ≤ n
 
 -- ---- the simple join, unit by unit
 

@@ -4,7 +4,7 @@ pub mod natural;
 ghost use mathlib.Core.Path.{_≡_};
 ghost use mathlib.Core.Bool.{true, false};
 ghost use Prim.Native.Nat.{_+_, _≤_, _<_};
-ghost use lib.ListN.{length};
+ghost use lib.ListN.{length, take};
 ghost use Rattle.base.specs.Buffers.{over, flat};
 ghost use Rattle.base.specs.Bytes.{bytesOf};
 ghost use Rattle.sheet.specs.Sheet as sheets;
@@ -370,19 +370,20 @@ pub fn check_marks(sheet: &[u8], places: Places, rate: u32, end: usize) -> Check
     }
 }
 
-// Stores the pitch marks, four bytes each, at the front of a buffer.
-pub fn store_marks(sheet: &[u8], places: Places, rate: u32, marks: &mut [u8])
-    requires { ⌜ CanStore (now sheet) places rate (length (now marks)) ⌝ }
+// Stores the first `count` pitch marks, four bytes each, at the front of a buffer.
+pub fn store_marks(sheet: &[u8], places: Places, rate: u32, count: usize, marks: &mut [u8])
+    requires { ⌜ CanStore (now sheet) places rate count (length (now marks)) ⌝ }
     ensures { λ _.
         ⌜
         now (marks .exit) ≡
-        over (flat (bytesOf 4) (pitch.pitchMarks rate (sheets.sheetOf (now (sheet .entry)) .targets) .marks))
+        over
+        (flat (bytesOf 4) (take count (pitch.pitchMarks rate (sheets.sheetOf (now (sheet .entry)) .targets) .marks)))
         (now (marks .entry))
         ⌝ }
 {
     let mut walk = fresh(places, rate);
     let mut i = 0;
-    loop {
+    while i < count {
         let step = next(sheet, walk);
         let event = step.event;
         match event {

@@ -32,7 +32,7 @@ fn store_pitch_marks(sheet: &[u8], places: Places, rate: u32, marks: &mut [u8]) 
             if marks.len() / 4 < count {
                 return refusal::number(Refusal::ShortBuffer);
             }
-            marks::store_marks(sheet, places, rate, marks);
+            marks::store_marks(sheet, places, rate, count, marks);
             16 * (count as u32)
         }
     }

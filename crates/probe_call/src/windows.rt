@@ -62,6 +62,8 @@ fn nearest_of(file: &[u8], d: DiphoneVoice, first: usize, last: usize, place: f3
         first_period: first,
         last_period: last,
         target_end: 0,
+        pair: 0,
+        half: 0,
     };
     excitation::nearest_period(file, d, unit, place)
 }

@@ -112,3 +112,25 @@ sheet-refers bs = by (sheetFrom bs) (read-parts bs)
         let i = repeated-refers (c .count) (c .count) (c .from) (c .items) (k .rest) (k .segments .all) in
         let m = i .many in
         rw m (i .refers)
+
+-- 'At most 4,096 of each'
+count-few : (bs : List ℕ) (n : ℕ) (r : List ℕ) → count bs ≡ gets n r → n ≤ 4096
+unfolding count
+count-few bs n r e =
+    let a = came _ _ n r e in
+    let q = formed (ltb 4096 (a .value)) _ n _ r (a .after) in
+    subst (λ (k : ℕ). k ≤ 4096) (q .1) (ltb-false 4096 (a .value) (q .0))
+
+pub sheet-few : (bs : List ℕ) → length (sheetOf bs .segments) ≤ 4096
+unfolding sheetOf
+sheet-few bs = by (sheetFrom bs) (read-parts bs)
+  where
+    by : (g : Got Parts) → ((p : Parts) (r : List ℕ) → g ≡ gets p r → ReadParts bs p) → length (sheetIn g .segments) ≤ 4096
+    by (fails c) f = omega arith
+    by (gets p r) f =
+        let k = f p r refl in
+        let c = p .segments in
+        let i = repeated-refers (c .count) (c .count) (c .from) (c .items) (k .rest) (k .segments .all) in
+        let m = i .many in
+        let l = count-few bs (c .count) (c .from) (k .segments .many) in
+        omega arith

@@ -17,10 +17,7 @@ fn put_text(voice: &[u8], sheet: &[u8], out: &mut [u8]) -> usize
         ⌝ }
     ensures { λ r. ⌜ Counts r (now (out .exit)) ⌝ }
 {
-    if voice.len() > transcript::VOICE_LIMIT {
-        return lines::put_refused(refusal::number(Refusal::ShortBuffer), out);
-    }
-    if sheet.len() > transcript::SHEET_LIMIT {
+    if transcript::is_too_long(voice, sheet) {
         return lines::put_refused(refusal::number(Refusal::ShortBuffer), out);
     }
     let mut index = [0u8; 8192];
@@ -43,26 +40,13 @@ fn put_text(voice: &[u8], sheet: &[u8], out: &mut [u8]) -> usize
     )
 }
 
-// Reads a file to the front of a buffer, and says how many bytes: 0 where it cannot be read.
-fn read_file(path: &[u8], buf: &mut [u8]) -> usize
-    ensures { λ r. ⌜ Counts r (now (buf .exit)) ⌝ }
-{
-    let fd = os::open_read(path);
-    if fd < 0 {
-        return 0;
-    }
-    let n = io::read_full(fd, buf);
-    libc::close(fd);
-    n
-}
-
 // A file is read one byte past its limit, so that a longer one is seen.
 fn main() {
     let mut voice = [0u8; 32769];
     let mut sheet = [0u8; 4097];
     let mut out = io::large_buffer();
-    let v = read_file(b"voice.flv", &mut voice);
-    let s = read_file(b"call.sht", &mut sheet);
+    let v = files::read_file(b"voice.flv", &mut voice);
+    let s = files::read_file(b"call.sht", &mut sheet);
     let n = put_text(&voice[..v], &sheet[..s], &mut out);
     io::write_all(STDOUT_FILENO, &out[..n]);
 }

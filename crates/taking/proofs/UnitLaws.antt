@@ -175,8 +175,8 @@ pub record Room (order : ℕ) (w : Whole) (n k l : ℕ) : Type 0 where
   pub rows : 2 * (order * w .count) ≤ k
   pub excitation : w .mark ≤ l
 
-first-low : {end m : ℕ} {ms : List ℕ} → Each (λ m. m ≤ end) (m ∷ ms) → (m ≤ end) × Each (λ m. m ≤ end) ms
-first-low (cons l e) = (l, e)
+pub each-first : {A : Type 0} {P : A → Type 0} {x : A} {xs : List A} → Each P (x ∷ xs) → P x × Each P xs
+each-first (cons l e) = (l, e)
 
 module _ (file : List ℕ) (d : DiphoneVoice) (u : Unit) (marks : List ℕ) (pace : Float) (end : ℕ) (w : Whole) (n k l o : ℕ) (s r e b : List ℕ) (to : Progress) (place : Float)
     (g : Going file d u marks pace end w n k l o s r e b to place) where
@@ -205,7 +205,7 @@ module _ (file : List ℕ) (d : DiphoneVoice) (u : Unit) (marks : List ℕ) (pac
     risen = subst (Rising (to .mark)) coming (g .rising)
 
     lows : (m ≤ u .«target_end») × Each (λ m. m ≤ u .«target_end») after
-    lows = first-low (subst (Each (λ m. m ≤ u .«target_end»)) coming (g .low))
+    lows = each-first (subst (Each (λ m. m ≤ u .«target_end»)) coming (g .low))
 
     pub mark-above : to .mark ≤ m
     mark-above = risen .0

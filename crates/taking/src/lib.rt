@@ -168,7 +168,7 @@ fn take_period(
 
 // The end of a unit's share of the marks, of which so many are taken: it takes those that are left
 // and not above its target end.
-fn share_end(unit: Unit, marks: &[u8], taken: usize) -> usize
+pub fn share_end(unit: Unit, marks: &[u8], taken: usize) -> usize
     ensures { λ r.
         ⌜
         (r ≡ taken + upToEnd unit (drop taken (elements 4 (now (marks .entry))))) ×

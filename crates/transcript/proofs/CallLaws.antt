@@ -54,7 +54,7 @@ module _ (file sheet : List ℕ) (settings : Settings) (b : Buffers) (bytes : By
   abbrev call : SpokenCall
   call = record { voiceFile = file; sheetFile = sheet; settings = settings; lent = b; bytes = bytes; notRefused = n }
 
-  opening : openingRefusal file ≡ none
+  pub opening : openingRefusal file ≡ none
   unfolding callRefusal checkRefusal
   opening = next-none _ _ (next-none _ _ n .0) .0
 
@@ -70,7 +70,7 @@ module _ (file sheet : List ℕ) (settings : Settings) (b : Buffers) (bytes : By
       by true e = refl
       by false e = let z : _≡_ {A = ℕ} 0 1 = cc in absurd (omega arith)
 
-  periods-fit : length ps ≤ length (b .sizes) / 4
+  pub periods-fit : length ps ≤ length (b .sizes) / 4
   unfolding fits holds needOf
   periods-fit = leb-true _ _ (every-at _ fitting 2)
 
@@ -78,7 +78,7 @@ module _ (file sheet : List ℕ) (settings : Settings) (b : Buffers) (bytes : By
   unfolding fits holds needOf
   rows-fit = leb-true _ _ (every-at _ fitting 3)
 
-  excitation-fit : length (excitationOf ps) ≤ length (b .excitation)
+  pub excitation-fit : length (excitationOf ps) ≤ length (b .excitation)
   unfolding fits holds needOf
   excitation-fit = leb-true _ _ (every-at _ fitting 4)
 
@@ -160,11 +160,11 @@ module _ (file sheet : List ℕ) (settings : Settings) (b : Buffers) (bytes : By
 
 -- ---- by what the call answered
 
-answer-none : (v : Voice) (s : Sheet) (settings : Settings) (m : Summary) (u : Option Refusal) → answerBy v s settings u .answer ≡ Spoken m → u ≡ none
+pub answer-none : (v : Voice) (s : Sheet) (settings : Settings) (m : Summary) (u : Option Refusal) → answerBy v s settings u .answer ≡ Spoken m → u ≡ none
 answer-none v s settings m none e = refl
 answer-none v s settings m (some c) e = let z : _≡_ {A = ℕ} 0 1 = cc in absurd (omega arith)
 
-answer-some : (v : Voice) (s : Sheet) (settings : Settings) (c : Refusal) (u : Option Refusal) → answerBy v s settings u .answer ≡ Refused c → u ≡ some c
+pub answer-some : (v : Voice) (s : Sheet) (settings : Settings) (c : Refusal) (u : Option Refusal) → answerBy v s settings u .answer ≡ Refused c → u ≡ some c
 answer-some v s settings c none e = let z : _≡_ {A = ℕ} 0 1 = cc in absurd (omega arith)
 answer-some v s settings c (some d) e = cc
 

@@ -30,10 +30,13 @@ spokenText v s settings =
     let m = summaryOf v s settings in
     summary (m .rate) (m .periods) (m .samples) ++ periods (periodsOf v s settings)
 
--- 'A refusal prints only `refused`, a space and the number'
+-- 'A refusal prints only `refused`, a space and the number'; else there is this text
+abbrev pub refusedOr : Option Refusal → List ℕ → List ℕ
+refusedOr none text = text
+refusedOr (some r) text = refused (numberOf r)
+
 abbrev pub textBy : Voice → Sheet → Settings → Option Refusal → List ℕ
-textBy v s settings none = spokenText v s settings
-textBy v s settings (some r) = refused (numberOf r)
+textBy v s settings u = refusedOr u (spokenText v s settings)
 
 -- the text of a call with lent buffers
 unfoldable pub callText : List ℕ → List ℕ → Settings → Buffers → List ℕ

@@ -1,11 +1,17 @@
 -- Document 01, 'Proved examples': the settings of its program, the buffers that it lends, and the limits of its files.
-use mathlib.Core.Bool.{false}
+use mathlib.Core.Bool.{Bool, true, false}
+use mathlib.Core.List.{List}
 use Prim.Native.Nat.{ℕ}
-use lib.ListN.{replicate}
+use lib.Dec.{ltb}
+use lib.ListN.{length, replicate}
+use Rattle.base.specs.Choice.{pick}
+use Rattle.refusal.specs.declared.Refusal.the-variants.{ShortBuffer}
+use Rattle.refusal.specs.Number.{numberOf}
 use Rattle.lpc.specs.declared.ResynthType.the-variants.{Fixed}
 use Rattle.call.specs.declared.JoinType.the-variants.{Simple}
 use Rattle.call.specs.declared.Settings.{Settings}
 use Rattle.call.specs.Buffers.{Buffers, lent}
+use Rattle.lines.specs.Lines.{refused}
 
 -- 'with simple join, fixed filter, no fold'
 abbrev pub programSettings : Settings
@@ -21,3 +27,10 @@ voiceLimit = 32768
 
 abbrev pub sheetLimit : ℕ
 sheetLimit = 4096
+
+unfoldable pub tooLong : List ℕ → List ℕ → Bool
+tooLong file sheet = pick (ltb voiceLimit (length file)) true (ltb sheetLimit (length sheet))
+
+-- 'longer ones refused 13 before all else', and others have this text
+unfoldable pub withinLimits : List ℕ → List ℕ → List ℕ → List ℕ
+withinLimits file sheet text = pick (tooLong file sheet) (refused (numberOf ShortBuffer)) text

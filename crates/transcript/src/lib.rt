@@ -8,7 +8,7 @@ ghost use Rattle.lines.specs.Lines as lines;
 ghost use Rattle.call.specs.Buffers.{lent, buffersAfter};
 ghost use Rattle.call.specs.Pull.{lentOf};
 ghost use Rattle.transcript.specs.CallText as text;
-ghost use Rattle.transcript.specs.Program.{programSettings};
+ghost use Rattle.transcript.specs.Program.{programSettings, tooLong};
 use call::Answer;
 use call::Called;
 use call::Settings;
@@ -19,6 +19,16 @@ use lpc::FilterState;
 pub const VOICE_LIMIT: usize = 32768;
 
 pub const SHEET_LIMIT: usize = 4096;
+
+// Whether one of the two is longer than its limit.
+pub fn is_too_long(voice: &[u8], sheet: &[u8]) -> bool
+    ensures { λ r. ⌜ r ≡ tooLong (now (voice .entry)) (now (sheet .entry)) ⌝ }
+{
+    if voice.len() > VOICE_LIMIT {
+        return true;
+    }
+    sheet.len() > SHEET_LIMIT
+}
 
 // The settings of document 01's program.
 pub fn program_settings() -> Settings

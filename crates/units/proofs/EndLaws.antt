@@ -3,7 +3,7 @@ use mathlib.Core.Path.{_≡_, refl, ap, _∙_}
 use mathlib.Core.Bool.{Bool}
 use mathlib.Core.List.{List, [], _∷_}
 use mathlib.Core.Option.{none, some}
-use Prim.Native.Nat.{ℕ, _≤_, _<_, max}
+use Prim.Native.Nat.{ℕ, _+_, _≤_, _<_, max}
 use native.Mathlib.Omega.{arith}
 use borrow.Author.Tests.{le-leb, lt-leb}
 use Rattle.base.proofs.CaseLaws.{by-order}
@@ -22,7 +22,7 @@ use Rattle.units.specs.declared.CheckedEnds.the-variants as checked
 use Rattle.units.specs.Selecting.{folded}
 use Rattle.units.specs.Units.{limit, samplesAt, midway, unitsOfPair, unitsAll, unitsOf, endRefusal, greatestEnd, checkedEnds}
 use Rattle.units.specs.Walking.{coming, unitsComing}
-use Rattle.units.proofs.StepLaws.{folded-nil, coming-first, coming-none, coming-next}
+use Rattle.units.proofs.StepLaws.{folded-nil, coming-first, coming-none, After, coming-next}
 
 -- ---- the refusal, by the greatest of all ends
 
@@ -90,8 +90,8 @@ module _ (sheet : List ℕ) (rate : ℕ) where
         (v : Voice) (fold : Bool) → v .header .rate ≡ rate
         → max greatest (greatestEnd (unitsComing v fold sheet count w)) ≡ greatestEnd (unitsOf v (folded fold (sheetOf sheet .segments)))
 
-    pub greatest-first : (w : PairWalk) → sheetOf sheet .segments ≡ segmentRead sheet (w .left) ∷ coming sheet count w → Greatest w 0
-    greatest-first w e v fold r = let a = ap greatestEnd (coming-first v fold sheet count w e) in omega arith
+    pub greatest-first : (w : PairWalk) → w .remaining + 1 ≡ count → sheetOf sheet .segments ≡ segmentRead sheet (w .left) ∷ coming sheet count w → Greatest w 0
+    greatest-first w n e v fold r = let a = ap greatestEnd (coming-first v fold sheet count w n e) in omega arith
 
     pub greatest-last : (w : PairWalk) (greatest : ℕ) → w .remaining ≡ 0 → Greatest w greatest → AllEnds (λ us. greatest ≡ greatestEnd us)
     unfolding greatestEnd
@@ -100,7 +100,7 @@ module _ (sheet : List ℕ) (rate : ℕ) where
         let b = g v fold r in
         omega arith
 
-    module _ (w x : PairWalk) (greatest : ℕ) (g : Greatest w greatest) (e : coming sheet count w ≡ segmentRead sheet (x .left) ∷ coming sheet count x) where
+    module _ (w x : PairWalk) (greatest : ℕ) (g : Greatest w greatest) (n : After sheet count w x) where
       abbrev first : ℕ
       first = samplesAt rate (asF32 (w .left .end))
 
@@ -111,11 +111,11 @@ module _ (sheet : List ℕ) (rate : ℕ) where
           → greatestEnd (unitsComing v fold sheet count w) ≡ max first (max second (greatestEnd (unitsComing v fold sheet count x)))
       unfolding greatestEnd unitsOfPair
       pair-greatest v fold r =
-          ap greatestEnd (coming-next v fold sheet count w x e)
+          ap greatestEnd (coming-next v fold sheet count w x n)
           ∙ ap (λ (k : ℕ). max (samplesAt k (asF32 (w .left .end))) (max (samplesAt k (midway (asF32 (w .left .end)) (asF32 (x .left .end)))) (greatestEnd (unitsComing v fold sheet count x)))) r
 
       pub greatest-next : (next : ℕ) → next ≡ max greatest (max first second) → Greatest x next
-      greatest-next next n v fold r =
+      greatest-next next e v fold r =
           let a = g v fold r in
           let b = pair-greatest v fold r in
           omega arith

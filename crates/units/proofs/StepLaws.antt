@@ -2,7 +2,7 @@
 use mathlib.Core.Path.{_≡_, refl, sym, ap, subst, _∙_}
 use mathlib.Core.Bool.{Bool, true, false}
 use mathlib.Core.List.{List, [], _∷_, _++_}
-use Prim.Native.Nat.{ℕ, _+_, _*_, _≤_, _<_, _^_}
+use Prim.Native.Nat.{ℕ, suc, _+_, _-_, _*_, _≤_, _<_, _^_}
 use borrow.Author.Tests.{lt-ltb, le-ltb}
 use lib.Dec.{ltb}
 use native.Mathlib.Omega.{arith}
@@ -46,60 +46,79 @@ folded-nil false = refl
 pub few-frames : (file : List ℕ) (d : DiphoneVoice) → IsOpen file d → length file < 2 ^ 63 → d .header .frames < 2 ^ 63
 few-frames file d o h = let w = offset-within file d o (d .header .frames) (omega arith) in omega arith
 
-pair-listed : (rate : ℕ) (x : Entry) (l r : Float) → unitsOfPair rate x l r ≡ listed (pairOf (periodsOf x) (endsOf rate l r))
+pair-listed : (pair rate : ℕ) (x : Entry) (l r : Float) → unitsOfPair pair rate x l r ≡ listed (pairOf pair (periodsOf x) (endsOf rate l r))
 unfolding unitsOfPair
-pair-listed rate x l r = refl
+pair-listed pair rate x l r = refl
 
 -- the units of the pairs from the first segment on are all
-pub coming-first : (v : Voice) (fold : Bool) (sheet : List ℕ) (count : ℕ) (w : PairWalk) → sheetOf sheet .segments ≡ segmentRead sheet (w .left) ∷ coming sheet count w
-    → unitsOf v (folded fold (sheetOf sheet .segments)) ≡ unitsComing v fold sheet count w
+pub coming-first : (v : Voice) (fold : Bool) (sheet : List ℕ) (count : ℕ) (w : PairWalk) → w .remaining + 1 ≡ count
+    → sheetOf sheet .segments ≡ segmentRead sheet (w .left) ∷ coming sheet count w → unitsOf v (folded fold (sheetOf sheet .segments)) ≡ unitsComing v fold sheet count w
 unfolding unitsAll
-coming-first v fold sheet count w e =
-    ap (unitsAll v (folded fold (sheetOf sheet .segments))) (ap (folded fold) e ∙ folded-cons fold (segmentRead sheet (w .left)) (coming sheet count w))
+coming-first v fold sheet count w n e =
+    let ss = folded fold (sheetOf sheet .segments) in
+    let one : 1 ≡ count - w .remaining = omega arith in
+    ap (unitsAll v ss) (ap (folded fold) e ∙ folded-cons fold (segmentRead sheet (w .left)) (coming sheet count w))
+    ∙ ap (λ (pair : ℕ). unitsFrom v ss pair (foldedSegment fold (segmentRead sheet (w .left))) (folded fold (coming sheet count w))) one
 
 -- no segment is to come, and no unit
 pub coming-none : (v : Voice) (fold : Bool) (sheet : List ℕ) (count : ℕ) (w : PairWalk) → w .remaining ≡ 0 → unitsComing v fold sheet count w ≡ []
 unfolding unitsFrom repeated
 coming-none v fold sheet count w z =
     let left = foldedSegment fold (segmentRead sheet (w .left)) in
-    ap (λ (n : ℕ). unitsFrom v (folded fold (sheetOf sheet .segments)) left (folded fold (listIn (segmentsAt sheet count n (w .next))))) z
-    ∙ ap (unitsFrom v (folded fold (sheetOf sheet .segments)) left) (folded-nil fold)
+    let pair = count - w .remaining in
+    ap (λ (n : ℕ). unitsFrom v (folded fold (sheetOf sheet .segments)) pair left (folded fold (listIn (segmentsAt sheet count n (w .next))))) z
+    ∙ ap (unitsFrom v (folded fold (sheetOf sheet .segments)) pair left) (folded-nil fold)
 
-module _ (v : Voice) (fold : Bool) (sheet : List ℕ) (count : ℕ) (w x : PairWalk) (e : coming sheet count w ≡ segmentRead sheet (x .left) ∷ coming sheet count x) where
+-- the walk x comes after a pair of w
+abbrev pub After : List ℕ → ℕ → PairWalk → PairWalk → Type 0
+After sheet count w x = (Walking sheet count x × (x .remaining + 1 ≡ w .remaining)) × (coming sheet count w ≡ segmentRead sheet (x .left) ∷ coming sheet count x)
+
+module _ (v : Voice) (fold : Bool) (sheet : List ℕ) (count : ℕ) (w x : PairWalk) (n : After sheet count w x) where
   abbrev ss : List SegmentRead
   ss = folded fold (sheetOf sheet .segments)
 
   abbrev entry : Entry
   entry = entryOf v ss (foldedSegment fold (segmentRead sheet (w .left))) (foldedSegment fold (segmentRead sheet (x .left)))
 
-  pub coming-next : unitsComing v fold sheet count w ≡ unitsOfPair (v .header .rate) entry (asF32 (w .left .end)) (asF32 (x .left .end)) ++ unitsComing v fold sheet count x
-  unfolding unitsFrom
-  coming-next = ap (unitsFrom v ss (foldedSegment fold (segmentRead sheet (w .left)))) (ap (folded fold) e ∙ folded-cons fold (segmentRead sheet (x .left)) (coming sheet count x))
+  abbrev pairUnits : List Unit
+  pairUnits = unitsOfPair (count - w .remaining) (v .header .rate) entry (asF32 (w .left .end)) (asF32 (x .left .end))
 
-pair-inside : (n : ℕ) (e : EntryPeriods) (l r : ℕ) → e .start + e .first + e .second ≤ n → ShortHalves e → let p = pairOf e (record { first = l; second = r }) in Inside n (p .first) × Inside n (p .second)
-pair-inside n e l r h s =
+  pub coming-next : unitsComing v fold sheet count w ≡ pairUnits ++ unitsComing v fold sheet count x
+  unfolding unitsFrom
+  coming-next =
+      let f = n .0 .0 .fewer in
+      let next : suc (count - w .remaining) ≡ count - x .remaining = omega (arith, f, n .0 .1) in
+      let right = foldedSegment fold (segmentRead sheet (x .left)) in
+      ap (unitsFrom v ss (count - w .remaining) (foldedSegment fold (segmentRead sheet (w .left))))
+      (ap (folded fold) (n .1) ∙ folded-cons fold (segmentRead sheet (x .left)) (coming sheet count x))
+      ∙ ap (λ (pair : ℕ). pairUnits ++ unitsFrom v ss pair right (folded fold (coming sheet count x))) next
+
+pair-inside : (n pair : ℕ) (e : EntryPeriods) (l r : ℕ) → e .start + e .first + e .second ≤ n → ShortHalves e
+    → let p = pairOf pair e (record { first = l; second = r }) in Inside n (p .first) × Inside n (p .second)
+pair-inside n pair e l r h s =
     let a = s .0 in
     let b = s .1 in
     (record { rising = omega arith; within = omega arith; short = omega arith }, record { rising = omega arith; within = omega arith; short = omega arith })
 
 module _ (file : List ℕ) (bytes : Bytes file) (d : DiphoneVoice) (o : IsOpen file d) (fold : Bool) (sheet : List ℕ) (count : ℕ) (w x : PairWalk)
-    (n : (Walking sheet count x × (x .remaining + 1 ≡ w .remaining)) × (coming sheet count w ≡ segmentRead sheet (x .left) ∷ coming sheet count x))
-    (e : EntryPeriods) (s : (e ≡ periodsOf (entry (voiceOf file) fold sheet count w x (n .1))) × (e .start + e .first + e .second ≤ d .header .frames)) (u : UnitPair)
-    (p : u ≡ pairOf e (endsOf (d .header .rate) (asF32 (w .left .end)) (asF32 (x .left .end)))) where
+    (n : After sheet count w x) (e : EntryPeriods) (s : (e ≡ periodsOf (entry (voiceOf file) fold sheet count w x n)) × (e .start + e .first + e .second ≤ d .header .frames)) (u : UnitPair)
+    (p : u ≡ pairOf (count - w .remaining) e (endsOf (d .header .rate) (asF32 (w .left .end)) (asF32 (x .left .end)))) where
   pub steps-pair : StepsPair file d fold sheet count w (record { units = u; walk = x })
   steps-pair =
       let l = asF32 (w .left .end) in
       let r = asF32 (x .left .end) in
+      let pair = count - w .remaining in
+      let found = entry (voiceOf file) fold sheet count w x n in
       let h = selected-short file bytes (folded fold (sheetOf sheet .segments)) (foldedSegment fold (segmentRead sheet (w .left))) (foldedSegment fold (segmentRead sheet (x .left))) in
-      let i = pair-inside (d .header .frames) e (endsOf (d .header .rate) l r .first) (endsOf (d .header .rate) l r .second) (s .1) (subst ShortHalves (sym (s .0)) h) in
+      let i = pair-inside (d .header .frames) pair e (endsOf (d .header .rate) l r .first) (endsOf (d .header .rate) l r .second) (s .1) (subst ShortHalves (sym (s .0)) h) in
       let rate : voiceOf file .header .rate ≡ d .header .rate = ap (λ (h : VoiceHeader). h .rate) (header-is file d (o .places)) in
-      let is : unitsOfPair (voiceOf file .header .rate) (entry (voiceOf file) fold sheet count w x (n .1)) l r ≡ listed u =
-      ap (λ (k : ℕ). unitsOfPair k (entry (voiceOf file) fold sheet count w x (n .1)) l r) rate
-      ∙ pair-listed (d .header .rate) (entry (voiceOf file) fold sheet count w x (n .1)) l r
-      ∙ ap (λ (q : EntryPeriods). listed (pairOf q (endsOf (d .header .rate) l r))) (sym (s .0))
+      let is : unitsOfPair pair (voiceOf file .header .rate) found l r ≡ listed u =
+      ap (λ (k : ℕ). unitsOfPair pair k found l r) rate
+      ∙ pair-listed pair (d .header .rate) found l r
+      ∙ ap (λ (q : EntryPeriods). listed (pairOf pair q (endsOf (d .header .rate) l r))) (sym (s .0))
       ∙ sym (ap listed p) in
       record {
-        units = coming-next (voiceOf file) fold sheet count w x (n .1) ∙ ap (λ (us : List Unit). us ++ unitsComing (voiceOf file) fold sheet count x) is;
+        units = coming-next (voiceOf file) fold sheet count w x n ∙ ap (λ (us : List Unit). us ++ unitsComing (voiceOf file) fold sheet count x) is;
         walking = n .0 .0;
         fewer = n .0 .1;
         first = subst (λ (q : UnitPair). Inside (d .header .frames) (q .first)) (sym p) (i .0);
@@ -134,10 +153,10 @@ left-none v fold sheet count w z = by (w .halfway) refl
 
 pub starts-units : (sheet : List ℕ) (count : ℕ) (w : PairWalk)
     → (Walking sheet count w × (w .remaining + 1 ≡ count)) × (sheetOf sheet .segments ≡ segmentRead sheet (w .left) ∷ coming sheet count w)
-    → StartsUnits sheet count (record { pairs = w; second = record { «first_period» = 0; «last_period» = 0; «target_end» = 0 }; halfway = false })
+    → StartsUnits sheet count (record { pairs = w; second = record { «first_period» = 0; «last_period» = 0; «target_end» = 0; pair = 0; half = 0 }; halfway = false })
 starts-units sheet count w n =
     record {
-      units = λ v fold. coming-first v fold sheet count w (n .1);
+      units = λ v fold. coming-first v fold sheet count w (n .0 .1) (n .1);
       walking = λ frames. record { pairs = n .0 .0; second = record { rising = omega arith; within = omega arith; short = omega arith } };
       many = omega (arith, n .0 .1);
     }

@@ -29,12 +29,12 @@ pub data Within (n : ℕ) : List Unit → Type 0 where
 
 -- ---- a voice that extends another
 
-pair-same : (r r′ : ℕ) (e e′ : Entry) (x y : Float) (q q′ : List Unit) → r ≡ r′ → e ≡ e′ → q ≡ q′ → unitsOfPair r e x y ++ q ≡ unitsOfPair r′ e′ x y ++ q′
-pair-same r r′ e e′ x y q q′ a b c = cc
+pair-same : (pair r r′ : ℕ) (e e′ : Entry) (x y : Float) (q q′ : List Unit) → r ≡ r′ → e ≡ e′ → q ≡ q′ → unitsOfPair pair r e x y ++ q ≡ unitsOfPair pair r′ e′ x y ++ q′
+pair-same pair r r′ e e′ x y q q′ a b c = cc
 
-pub pair-within : (n r : ℕ) (e : Entry) (x y : Float) (us : List Unit) → endPeriod e ≤ n → Within n us → Within n (unitsOfPair r e x y ++ us)
+pub pair-within : (n pair r : ℕ) (e : Entry) (x y : Float) (us : List Unit) → endPeriod e ≤ n → Within n us → Within n (unitsOfPair pair r e x y ++ us)
 unfolding unitsOfPair
-pair-within n r e x y us l i =
+pair-within n pair r e x y us l i =
     let a : e .start ≤ e .start + e .first = omega arith in
     let b : e .start + e .first ≤ n = omega arith in
     let c : e .start + e .first ≤ e .start + e .first + e .second = omega arith in
@@ -71,22 +71,25 @@ module _ (v w : Voice) (x : Extends w v) (inside : withinFrames (v .header .fram
     same : ws ≡ us
     within : Within (v .header .frames) us
 
-  from-same : (ss : List SegmentRead) (left : SegmentRead) (rs : List SegmentRead) → foundFrom v ss left rs ≡ true → Same (unitsFrom v ss left rs) (unitsFrom w ss left rs)
+  from-same : (ss : List SegmentRead) (pair : ℕ) (left : SegmentRead) (rs : List SegmentRead) → foundFrom v ss left rs ≡ true
+      → Same (unitsFrom v ss pair left rs) (unitsFrom w ss pair left rs)
   unfolding unitsFrom foundFrom
-  from-same ss left [] h = record { same = refl; within = nil }
-  from-same ss left (right ∷ rs) h =
+  from-same ss pair left [] h = record { same = refl; within = nil }
+  from-same ss pair left (right ∷ rs) h =
       let found = isSome (lookup (firstTried ss left right) (v .entries)) in
       let a = same-entry ss left right (and-left found (foundFrom v ss right rs) h) in
-      let b = from-same ss right rs (and-right found (foundFrom v ss right rs) h) in
+      let b = from-same ss (suc pair) right rs (and-right found (foundFrom v ss right rs) h) in
       record {
-        same = pair-same (w .header .rate) (v .header .rate) (entryOf w ss left right) (entryOf v ss left right) (asF32 (left .end)) (asF32 (right .end)) _ _ (x .rate) (a .fromW ∙ sym (a .fromV)) (b .same);
-        within = pair-within (v .header .frames) (v .header .rate) (entryOf v ss left right) (asF32 (left .end)) (asF32 (right .end)) (unitsFrom v ss right rs) (subst (λ (e : Entry). endPeriod e ≤ v .header .frames) (sym (a .fromV)) (a .inside)) (b .within);
+        same = pair-same pair (w .header .rate) (v .header .rate) (entryOf w ss left right) (entryOf v ss left right) (asF32 (left .end)) (asF32 (right .end)) _ _ (x .rate)
+            (a .fromW ∙ sym (a .fromV)) (b .same);
+        within = pair-within (v .header .frames) pair (v .header .rate) (entryOf v ss left right) (asF32 (left .end)) (asF32 (right .end)) (unitsFrom v ss (suc pair) right rs)
+            (subst (λ (e : Entry). endPeriod e ≤ v .header .frames) (sym (a .fromV)) (a .inside)) (b .within);
       }
 
   all-same : (ss rs : List SegmentRead) → foundAll v ss rs ≡ true → Same (unitsAll v ss rs) (unitsAll w ss rs)
   unfolding unitsAll foundAll
   all-same ss [] h = record { same = refl; within = nil }
-  all-same ss (s ∷ rs) h = from-same ss s rs h
+  all-same ss (s ∷ rs) h = from-same ss 1 s rs h
 
   module _ (fold : Bool) (ss : List SegmentRead) (found : firstTriedFound v fold ss ≡ true) where
     pub units-same : unitsOf w (folded fold ss) ≡ unitsOf v (folded fold ss)
@@ -110,18 +113,18 @@ entry-append : (v : Voice) (ss m : List SegmentRead) (left right : SegmentRead) 
 unfolding entryOf firstTried inCluster
 entry-append v ss m left right h = let a = name-append ss m (left .follower) h in rw a
 
-from-append : (v : Voice) (ss m : List SegmentRead) (left : SegmentRead) (rs q : List SegmentRead) → left .follower ≤ length ss → Refers (length ss) rs
-    → Heads (unitsFrom v ss left rs) (unitsFrom v (ss ++ m) left (rs ++ q))
+from-append : (v : Voice) (ss m : List SegmentRead) (pair : ℕ) (left : SegmentRead) (rs q : List SegmentRead) → left .follower ≤ length ss → Refers (length ss) rs
+    → Heads (unitsFrom v ss pair left rs) (unitsFrom v (ss ++ m) pair left (rs ++ q))
 unfolding unitsFrom
-from-append v ss m left [] q h r = heads-nil _
-from-append v ss m left (right ∷ rs) q h (sheets.cons l r) =
+from-append v ss m pair left [] q h r = heads-nil _
+from-append v ss m pair left (right ∷ rs) q h (sheets.cons l r) =
     let a = entry-append v ss m left right h in
-    rw a (heads-after (unitsOfPair (v .header .rate) (entryOf v ss left right) (asF32 (left .end)) (asF32 (right .end))) (from-append v ss m right rs q l r))
+    rw a (heads-after (unitsOfPair pair (v .header .rate) (entryOf v ss left right) (asF32 (left .end)) (asF32 (right .end))) (from-append v ss m (suc pair) right rs q l r))
 
 all-append : (v : Voice) (ss m rs : List SegmentRead) → Refers (length ss) rs → Heads (unitsAll v ss rs) (unitsAll v (ss ++ m) (rs ++ m))
 unfolding unitsAll
 all-append v ss m [] r = heads-nil _
-all-append v ss m (s ∷ rs) (sheets.cons l r) = from-append v ss m s rs m l r
+all-append v ss m (s ∷ rs) (sheets.cons l r) = from-append v ss m 1 s rs m l r
 
 -- folding
 
@@ -130,7 +133,7 @@ unfolding folded
 folded-append false ss m = refl
 folded-append true ss m = map-append foldSegment ss m
 
-length-folded : (f : Bool) (ss : List SegmentRead) → length (folded f ss) ≡ length ss
+pub length-folded : (f : Bool) (ss : List SegmentRead) → length (folded f ss) ≡ length ss
 unfolding folded
 length-folded false ss = refl
 length-folded true ss = length-map ss foldSegment

@@ -2,7 +2,7 @@
 use mathlib.Core.List.{List, [], _∷_, _++_}
 use mathlib.Core.Option.{Option, none, some}
 use mathlib.Core.Bool.{false}
-use Prim.Native.Nat.{ℕ, _+_, _≤_, max}
+use Prim.Native.Nat.{ℕ, suc, _+_, _≤_, max}
 use lib.Dec.{leb}
 use lib.IntN.{pos}
 use lib.Ieee.{Float, fin, binary32, add, mul, div, ofInt, toUnsigned}
@@ -32,24 +32,24 @@ midway left right = div binary32 (add binary32 left right) (fin false 1 (pos 1))
 abbrev pub endsOf : ℕ → Float → Float → TargetEnds
 endsOf rate left right = record { first = samplesAt rate left; second = samplesAt rate (midway left right) }
 
--- 'Halves are start to middle, middle to end'
-abbrev pub pairOf : EntryPeriods → TargetEnds → UnitPair
-pairOf e ends =
+-- 'Halves are start to middle, middle to end'; 'each unit must carry its pair's number, from 1, and which half it is, 1 or 2'
+abbrev pub pairOf : ℕ → EntryPeriods → TargetEnds → UnitPair
+pairOf pair e ends =
     let middle = e .start + e .first in
     record {
-      first = record { «first_period» = e .start; «last_period» = middle; «target_end» = ends .first };
-      second = record { «first_period» = middle; «last_period» = middle + e .second; «target_end» = ends .second };
+      first = record { «first_period» = e .start; «last_period» = middle; «target_end» = ends .first; pair = pair; half = 1 };
+      second = record { «first_period» = middle; «last_period» = middle + e .second; «target_end» = ends .second; pair = pair; half = 2 };
     }
 
 abbrev pub listed : UnitPair → List Unit
 listed p = p .first ∷ p .second ∷ []
 
-unfoldable pub unitsOfPair : ℕ → Entry → Float → Float → List Unit
-unitsOfPair rate e left right = listed (pairOf (periodsOf e) (endsOf rate left right))
+unfoldable pub unitsOfPair : ℕ → ℕ → Entry → Float → Float → List Unit
+unitsOfPair pair rate e left right = listed (pairOf pair (periodsOf e) (endsOf rate left right))
 
 -- a unit with another target end
 abbrev pub endingAt : Unit → ℕ → Unit
-endingAt u end = record { «first_period» = u .«first_period»; «last_period» = u .«last_period»; «target_end» = end }
+endingAt u end = record { «first_period» = u .«first_period»; «last_period» = u .«last_period»; «target_end» = end; pair = u .pair; half = u .half }
 
 -- a unit's periods are among so many, and at most 255: 'two halves u8'
 pub record Inside (frames : ℕ) (u : Unit) : Type 0 where
@@ -57,15 +57,15 @@ pub record Inside (frames : ℕ) (u : Unit) : Type 0 where
   pub within : u .«last_period» ≤ frames
   pub short : u .«last_period» ≤ u .«first_period» + 255
 
--- the pair of `left` and the first of the segments after it, and so on; ss has all segments, to which followers refer
-unfoldable pub unitsFrom : Voice → List SegmentRead → SegmentRead → List SegmentRead → List Unit
-unitsFrom v ss left [] = []
-unitsFrom v ss left (right ∷ rs) =
-    unitsOfPair (v .header .rate) (entryOf v ss left right) (asF32 (left .end)) (asF32 (right .end)) ++ unitsFrom v ss right rs
+-- the pair of `left` and the first of the segments after it, by its number, and so on; ss has all segments, to which followers refer
+unfoldable pub unitsFrom : Voice → List SegmentRead → ℕ → SegmentRead → List SegmentRead → List Unit
+unitsFrom v ss pair left [] = []
+unitsFrom v ss pair left (right ∷ rs) =
+    unitsOfPair pair (v .header .rate) (entryOf v ss left right) (asF32 (left .end)) (asF32 (right .end)) ++ unitsFrom v ss (suc pair) right rs
 
 unfoldable pub unitsAll : Voice → List SegmentRead → List SegmentRead → List Unit
 unitsAll v ss [] = []
-unitsAll v ss (s ∷ rs) = unitsFrom v ss s rs
+unitsAll v ss (s ∷ rs) = unitsFrom v ss 1 s rs
 
 -- the units of segments that are folded already
 abbrev pub unitsOf : Voice → List SegmentRead → List Unit

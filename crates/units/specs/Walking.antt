@@ -56,10 +56,11 @@ pub record Sampled (sheet : List ℕ) (count : ℕ) (sampled : List ℕ) : Type 
 pub record Kept (number at : ℕ) (old new : List ℕ) : Type 0 where
   pub each : (j : ℕ) → (getD new j 0 ≡ getD old j 0) ⊎ ((16 * j ≡ number) × (getD new j 0 ≡ at))
 
--- the units that are still to come
+-- the units that are still to come; the number of the next pair is that of its left segment
 abbrev pub unitsComing : Voice → Bool → List ℕ → ℕ → PairWalk → List Unit
 unitsComing v fold sheet count w =
-    unitsFrom v (folded fold (sheetOf sheet .segments)) (foldedSegment fold (segmentRead sheet (w .left))) (folded fold (coming sheet count w))
+    unitsFrom v (folded fold (sheetOf sheet .segments)) (count - w .remaining) (foldedSegment fold (segmentRead sheet (w .left)))
+    (folded fold (coming sheet count w))
 
 -- a step over a pair yields its units, which are the first of those still to come
 pub record StepsPair (file : List ℕ) (d : DiphoneVoice) (fold : Bool) (sheet : List ℕ) (count : ℕ) (w : PairWalk) (r : PairStep) : Type 0 where

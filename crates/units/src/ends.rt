@@ -34,10 +34,10 @@ fn target_ends(rate: u32, left: Value, right: Value) -> TargetEnds
     }
 }
 
-// The units of a pair whose segments end at these times.
-pub fn unit_pair(rate: u32, e: EntryPeriods, left: Value, right: Value) -> UnitPair
+// The units of a pair, by its number, whose segments end at these times.
+pub fn unit_pair(pair: usize, rate: u32, e: EntryPeriods, left: Value, right: Value) -> UnitPair
     requires { ⌜ e .start + e .first + e .second < 2 ^ 63 ⌝ }
-    ensures { λ r. ⌜ r ≡ units.pairOf e (units.endsOf rate (sheets.asF32 left) (sheets.asF32 right)) ⌝ }
+    ensures { λ r. ⌜ r ≡ units.pairOf pair e (units.endsOf rate (sheets.asF32 left) (sheets.asF32 right)) ⌝ }
 {
     let ends = target_ends(rate, left, right);
     let middle = e.start + e.first;
@@ -46,11 +46,15 @@ pub fn unit_pair(rate: u32, e: EntryPeriods, left: Value, right: Value) -> UnitP
             first_period: e.start,
             last_period: middle,
             target_end: ends.first,
+            pair: pair,
+            half: 1,
         },
         second: Unit {
             first_period: middle,
             last_period: middle + e.second,
             target_end: ends.second,
+            pair: pair,
+            half: 2,
         },
     }
 }

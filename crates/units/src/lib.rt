@@ -17,12 +17,14 @@ use voice::DiphoneVoice;
 // The greatest mark or target end that a call has.
 pub const LIMIT: usize = 16777215;
 
-// A unit: its first pitch period, the period after its last, and where it should end, in output
-// samples.
+// A unit: its first pitch period, the period after its last, where it should end, in output samples,
+// its pair's number, from 1, and which half of the pair it is, 1 or 2.
 pub struct Unit {
     pub first_period: usize,
     pub last_period: usize,
     pub target_end: usize,
+    pub pair: usize,
+    pub half: usize,
 }
 
 impl Unit {
@@ -34,6 +36,8 @@ impl Unit {
             first_period: self.first_period,
             last_period: self.last_period,
             target_end: end,
+            pair: self.pair,
+            half: self.half,
         }
     }
 }

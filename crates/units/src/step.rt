@@ -43,7 +43,8 @@ pub fn next_units(
     let e = super::select::select(file, index, sheet, by, sampled, left, right, number);
     let from = left.end;
     let to = right.end;
-    let units = super::ends::unit_pair(by.voice.header.rate, e, from, to);
+    let pair = segments.count - walk.remaining;
+    let units = super::ends::unit_pair(pair, by.voice.header.rate, e, from, to);
     PairStep {
         units: units,
         walk: after,
@@ -61,6 +62,8 @@ pub fn first_unit(sheet: &[u8], places: Places) -> UnitWalk
             first_period: 0,
             last_period: 0,
             target_end: 0,
+            pair: 0,
+            half: 0,
         },
         halfway: false,
     }

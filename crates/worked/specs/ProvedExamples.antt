@@ -107,7 +107,7 @@ pub record Table : Type 0 where
   -- min -1, range 2, q 65535, 0: 16383, -16384
   pub rowValues : (exampleValue 65535 ≡ pos 16383) × (exampleValue 0 ≡ negsuc 16383)
   -- periods 2 and 2, position 1: the second
-  pub tieMovesOn : nearestPeriod twoPeriods (record { «first_period» = 0; «last_period» = 2; «target_end» = 4 }) (fin false 1 (pos 0)) ≡ 1
+  pub tieMovesOn : nearestPeriod twoPeriods (record { «first_period» = 0; «last_period» = 2; «target_end» = 4; pair = 1; half = 1 }) (fin false 1 (pos 0)) ≡ 1
   -- 3 bytes into 6; 6 into 3: offset 1; from 1
   pub centredBytes : (centred 6 (1 ∷ 2 ∷ 3 ∷ []) ≡ 255 ∷ 1 ∷ 2 ∷ 3 ∷ 255 ∷ 255 ∷ [])
       × (centred 3 (1 ∷ 2 ∷ 3 ∷ 4 ∷ 5 ∷ 6 ∷ []) ≡ 2 ∷ 3 ∷ 4 ∷ [])

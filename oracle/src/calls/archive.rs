@@ -1,4 +1,5 @@
-//! `diphone_need`, `diphone_plan` and `diphone_pull` of libdiphone_c.a.
+//! `diphone_need`, `diphone_plan`, `diphone_pull` and `diphone_report` of
+//! libdiphone_c.a.
 
 use super::guarded::Guarded;
 
@@ -47,6 +48,15 @@ unsafe extern "C" {
         samples: *mut u8,
         samples_len: usize,
     ) -> i64;
+    fn diphone_report(
+        voice: *const u8,
+        voice_len: usize,
+        sheet: *const u8,
+        sheet_len: usize,
+        settings: u32,
+        lines: *mut u8,
+        lines_len: usize,
+    ) -> u32;
 }
 
 /// The bytes of what `diphone_need` tells, of a filter state and of a summary.
@@ -146,6 +156,22 @@ pub fn pull(state: &mut Guarded, lent: &Lent, samples: &mut Guarded) -> i64 {
             excitation.len(),
             samples.pointer(),
             samples.length(),
+        )
+    }
+}
+
+pub fn report(request: &Request, lines: &mut Guarded) -> u32 {
+    let Request { voice, sheet, .. } = request;
+    // SAFETY: all are buffers of their lengths, and they do not overlap.
+    unsafe {
+        diphone_report(
+            pointer(voice),
+            voice.len(),
+            pointer(sheet),
+            sheet.len(),
+            request.settings,
+            lines.pointer(),
+            lines.length(),
         )
     }
 }

@@ -10,6 +10,7 @@ use crate::rng::Rng;
 use crate::sheet::write;
 use crate::statements::drafts::{draft, Draft, Limits};
 use crate::statements::kinds::{self, Kind};
+use crate::store;
 
 /// Draws for one call of a kind before another is made instead.
 const MOST_DRAWS: usize = 300;
@@ -27,6 +28,9 @@ const PAIRS: usize = 120;
 
 /// Segments of long sheets. The place of every 16th is kept for followers.
 const LONG: [usize; 9] = [15, 16, 17, 18, 33, 257, 1_000, 4_095, 4_096];
+
+/// Voices with periods without samples at the heads of units.
+const EMPTY_HEADS: u64 = 60;
 
 /// Draws calls by their number.
 pub struct Generator {
@@ -209,5 +213,40 @@ pub fn long(seed: u64, mut check: impl FnMut(&mut Rng, Call)) {
             };
             check(rng, call);
         }
+    }
+}
+
+/// Calls in which periods without samples stand at the heads of units, three of
+/// four in the simple join: an earlier unit takes them there.
+pub fn empty_heads(seed: u64, mut check: impl FnMut(&mut Rng, Call)) {
+    for case in 0..EMPTY_HEADS {
+        let rng = &mut Rng::for_case(seed, 9_600_000 + case);
+        let words = voices::vocabulary(rng);
+        let covering = rng.once_in(2);
+        let spec = voices::voice(rng, &words, Extent::Any, covering);
+        let spec = voices::with_empty_heads(rng, &spec);
+        let sheet = sheets::sheet(rng, &words, spec.header.rate);
+        let join = if case % 4 == 3 { Join::Modified } else { Join::Simple };
+        let call = Call {
+            about: format!("empty heads {case}"),
+            voice: voices::file(&spec.sections()),
+            sheet: write(&sheet),
+            settings: Settings { join, ..settings(rng) },
+        };
+        check(rng, call);
+    }
+}
+
+/// The calls that `oracle store` writes.
+pub fn stored(seed: u64, mut check: impl FnMut(&mut Rng, Call)) {
+    for (number, stored) in (0..).zip(store::calls(seed, store::CALLS)) {
+        let rng = &mut Rng::for_case(seed, 9_700_000 + number);
+        let call = Call {
+            about: format!("stored call {number}, {}", stored.kind),
+            voice: stored.voice,
+            sheet: stored.sheet,
+            settings: stored.settings,
+        };
+        check(rng, call);
     }
 }

@@ -3,11 +3,31 @@
 use super::machine::{DONE, IMPOSSIBLE, SHORT_SLICE};
 use crate::call::{Filter, Settings, JOINS};
 use crate::expected::{Spoken, SHORT_BUFFER};
+use crate::period_report::Taking;
 use crate::report::Report;
 use crate::voicefile::Voice;
 
 /// By a number of document 01's table; 0 counts what is not refused.
 type ByNumber = [u64; SHORT_BUFFER + 1];
+
+/// What is counted of the taking of marks.
+const TAKINGS: [&str; 5] = [
+    "marks taken before their own unit, simple join",
+    "those taken by another pair",
+    "marks taken by a unit without periods",
+    "units without a mark",
+    "marks left over",
+];
+
+fn counted(taking: &Taking) -> [usize; TAKINGS.len()] {
+    [
+        taking.early,
+        taking.early_pairs,
+        taking.by_empty,
+        taking.idle,
+        taking.left_over,
+    ]
+}
 
 #[derive(Default)]
 pub struct Counts {
@@ -21,6 +41,13 @@ pub struct Counts {
     refused: ByNumber,
     needs: ByNumber,
     plans: ByNumber,
+    reports: ByNumber,
+    /// Those that have lines, and their lines.
+    with_lines: u64,
+    lines: u64,
+    /// How the marks of the accepted calls were taken: calls, and how often in
+    /// all of them.
+    takings: [[u64; 2]; TAKINGS.len()],
     marks: u64,
     pub periods: u64,
     pub samples: u64,
@@ -58,6 +85,22 @@ impl Counts {
         self.plans[answer.min(SHORT_BUFFER)] += 1;
     }
 
+    /// A report that answers so, of a call with so many lines to compare.
+    pub fn report(&mut self, answer: usize, lines: usize) {
+        self.reports[answer.min(SHORT_BUFFER)] += 1;
+        self.with_lines += u64::from(lines > 0);
+        self.lines += lines as u64;
+    }
+
+    /// How the marks of an accepted call were taken.
+    pub fn taking(&mut self, spoken: &Spoken) {
+        let counted = counted(&spoken.report.taking);
+        for (sums, count) in self.takings.iter_mut().zip(counted) {
+            sums[0] += u64::from(count > 0);
+            sums[1] += count as u64;
+        }
+    }
+
     pub fn pull(&mut self, answer: i64) {
         self.pulls += 1;
         self.done += u64::from(answer == DONE);
@@ -79,6 +122,14 @@ impl Counts {
         ];
         report.check(ends.iter().all(|count| *count > 0), || {
             format!("13, done, 14, 15 were reached {ends:?} times")
+        });
+        for (what, [calls, _]) in TAKINGS.iter().zip(self.takings) {
+            report.check(calls > 0, || format!("{what}: not reached"));
+        }
+        let answered = self.reports.iter().all(|count| *count > 0);
+        report.check(answered, || {
+            let reports = numbered(&self.reports);
+            format!("an answer of a report was not reached: {reports}")
         });
     }
 
@@ -102,6 +153,7 @@ impl Counts {
         println!("  refused: {}", numbered(&self.refused));
         println!("  needs by answer: {}", numbered(&self.needs));
         println!("  plans by answer: {}", numbered(&self.plans));
+        self.print_reports();
         println!(
             "  marks: {}, periods: {}, samples: {}",
             self.marks, self.periods, self.samples
@@ -114,6 +166,17 @@ impl Counts {
             "  not compared, as the Rust would take long: {}",
             self.not_compared
         );
+    }
+
+    fn print_reports(&self) {
+        println!("  reports by answer: {}", numbered(&self.reports));
+        println!(
+            "    lines compared: {} of {} reports",
+            self.lines, self.with_lines
+        );
+        for (what, [calls, count]) in TAKINGS.iter().zip(self.takings) {
+            println!("    {what}: {count} in {calls} calls");
+        }
     }
 }
 

@@ -1,6 +1,6 @@
-//! `oracle calls`: whole calls through `diphone_need`, `diphone_plan` and
-//! `diphone_pull`, beside the Rust where they are spoken and beside document
-//! 01 where they are refused.
+//! `oracle calls`: whole calls through `diphone_need`, `diphone_plan`,
+//! `diphone_pull` and `diphone_report`, beside the Rust where they are spoken
+//! and beside document 01 where they are refused.
 
 pub mod archive;
 mod cases;
@@ -10,6 +10,7 @@ mod machine;
 mod odd_states;
 mod planning;
 mod pulling;
+mod reporting;
 
 use crate::args::Args;
 use crate::call::Settings;
@@ -53,6 +54,8 @@ pub fn run(args: &Args) -> bool {
     cases::at_limits(args.seed, &mut each);
     cases::wide(args.seed, &mut each);
     cases::long(args.seed, &mut each);
+    cases::empty_heads(args.seed, &mut each);
+    cases::stored(args.seed, &mut each);
     bench.counts.check_reached(&mut bench.report);
     println!("oracle calls: seed {}, {calls} generated calls", args.seed);
     bench.counts.print();
@@ -70,12 +73,18 @@ pub fn check(rng: &mut Rng, call: &Call, bench: &mut Bench) {
         marks: usize::MAX,
         samples: usize::MAX,
     };
+    // Drawn from a copy: what the report draws moves no draw after it.
+    let own = &mut rng.clone();
     match expected::given(&call.voice, &call.sheet, call.settings, any) {
         None => bench.counts.not_compared += 1,
-        Some(Given::Refused(refusal)) => planning::refused(rng, call, refusal, bench),
+        Some(Given::Refused(refusal)) => {
+            planning::refused(rng, call, refusal, bench);
+            reporting::refused(own, call, refusal, bench);
+        }
         Some(Given::Spoken(spoken)) => {
             let voice = voicefile::open(&call.voice).expect("a voice that was opened before");
             planning::spoken(rng, call, &voice, &spoken, bench);
+            reporting::spoken(own, call, &spoken, bench);
         }
     }
     let same = kept[0] == call.voice && kept[1] == call.sheet;

@@ -12,7 +12,7 @@ use counts::Counts;
 use record::Stored;
 
 /// Calls drawn by their kind in a run that is not told otherwise.
-const CALLS: u64 = 200;
+pub const CALLS: u64 = 200;
 
 pub fn run(args: &Args) -> bool {
     let Some(out) = &args.out else {
@@ -49,7 +49,7 @@ pub fn run(args: &Args) -> bool {
 
 /// The calls of `oracle statements` and larger ones, each as it was drawn and
 /// as document 01's program speaks it; then the edges.
-fn calls(seed: u64, count: u64) -> Vec<Stored> {
+pub fn calls(seed: u64, count: u64) -> Vec<Stored> {
     let limits = Limits::new();
     let small = (0..count).filter_map(|number| small(seed, number, &limits));
     let drawn = small.chain(larger::all(seed));

@@ -25,14 +25,22 @@ check-modified-requires : tie.Need-check-modified-requires
 check-modified-requires c κs = search needs
 
 returns : tie.Need-returns
-returns c = let s = c .before .before .before .before .before .args in by-none (s .join) (s .file .now) (s .by .fold) (s .sheet .now) (c .no-marks .result) (c .before .enum-told .given .1) (c .no-marks .ensures)
+returns c =
+    let s = c .before .before .before .before .before .before .args in by-none (s .join) (s .file .now) (s .by .fold) (s .sheet .now) (c .no-marks .result) (c .before .enum-told .given .1)
+    (c .no-marks .ensures)
+
+same-length : tie.Need-same-length
+same-length c = search needs
 
 returns-2 : tie.Need-returns-2
-returns-2 c = let s = c .before .before .before .before .before .args in by-simple (s .join) (s .file .now) (s .by .fold) (s .sheet .now) (c .check-simple .result) (c .before .enum-told2 .given .1) (c .check-simple .ensures)
+returns-2 c =
+    let s = c .before .before .before .before .before .before .before .before .before .args in
+    let k = c .before .before .check-simple in
+    by-simple (s .join) (s .file .now) (s .by .fold) (s .sheet .now) (k .result) (c .before .before .before .before .enum-told2 .given .1) (k .ensures)
 
 returns-3 : tie.Need-returns-3
 returns-3 c =
-    let s = c .before .before .before .before .before in
+    let s = c .before .before .before .before .before .before in
     let rate = ap (λ (h : VoiceHeader). h .rate) (header-is (s .args .file .now) (s .args .by .voice) (s .pre .0 .places)) in
     by-modified (s .args .join) (s .args .file .now) (s .args .by .fold) (s .args .sheet .now) (c .check-modified .result) (c .before .enum-told3 .given .1) (c .check-modified .ensures _ (s .args .by .fold) rate)
 
@@ -47,5 +55,6 @@ check-join-spec =
     enum-told-3
     check-modified-requires
     returns
+    same-length
     returns-2
     returns-3)

@@ -15,12 +15,18 @@ enum-known-places : tie.Need-enum-known-places
 enum-known-places c = search needs
 
 check-marks-requires : tie.Need-check-marks-requires
-check-marks-requires c κs = (c .before .before .before .before .before .before .pre, sym (c .before .before .before .read-sheet .ensures .0) ∙ c .before .places .given .1)
+check-marks-requires c κs =
+    let s = c .before .before .before .before .before .before .before .before in
+    (s .pre .0, (sym (c .before .before .before .before .read-sheet .ensures .0) ∙ c .before .before .places .given .1, s .pre .1))
 
 returns : tie.Need-returns
 returns c =
-    let s = c .before .before .before .before .before .before in
-    refused-checked _ _ _ _ (sheet-refused _ _ _ _ (s .pre .fit) (sym (read-refusal _) ∙ ap refusalOf (sym (c .before .before .before .read-sheet .ensures .0) ∙ c .before .cause .given .1)))
+    let s = c .before .before .before .before .before .before .before in
+    refused-checked _ _ _ _
+    (sheet-refused _ _ _ _ (s .pre .0 .fit) (sym (read-refusal _) ∙ ap refusalOf (sym (c .before .before .before .read-sheet .ensures .0) ∙ c .before .cause .given .1)))
+
+same-length : tie.Need-same-length
+same-length c = search needs
 
 returns-2 : tie.Need-returns-2
 returns-2 c = search needs
@@ -34,4 +40,5 @@ check-sheet-spec =
     enum-known-places
     check-marks-requires
     returns
+    same-length
     returns-2)

@@ -11,20 +11,17 @@ use Rattle.lines.proofs.put_period.Tie as tie
 put-number-requires : tie.Need-put-number-requires
 put-number-requires c κs = search needs
 
-put-byte-requires : tie.Need-put-byte-requires
-put-byte-requires c κs = search needs
+cast-put-field : tie.Need-cast-put-field
+cast-put-field c = search needs
 
-cast-put-number : tie.Need-cast-put-number
-cast-put-number c = search needs
-
-put-number-requires-2 : tie.Need-put-number-requires-2
-put-number-requires-2 c κs = search needs
+put-field-requires : tie.Need-put-field-requires
+put-field-requires c κs = search needs
 
 put-samples-requires : tie.Need-put-samples-requires
 put-samples-requires c κs = search needs
 
-put-byte-requires-2 : tie.Need-put-byte-requires-2
-put-byte-requires-2 c κs = search needs
+put-byte-requires : tie.Need-put-byte-requires
+put-byte-requires c κs = search needs
 
 same-length : tie.Need-same-length
 same-length c = search needs
@@ -32,16 +29,15 @@ same-length c = search needs
 returns : tie.Need-returns
 unfolding period
 returns c =
-    let c5 = c .before .before in
-    let c4 = c5 .before .before .before .before in
+    let c4 = c .before .before in
     let c3 = c4 .before .before .before .before in
     let c2 = c3 .before .before .before .before in
     let c1 = c2 .before .before .before .before in
     let s = c1 .before .before .before .before .args .samples .now in
-    let l : c4 .put-samples .result ≤ c3 .put-number2 .result + 7 * (length s / 2) = c4 .put-samples .ensures .1 in
+    let l : c3 .put-samples .result ≤ c2 .put-field .result + 7 * (length s / 2) = c3 .put-samples .ensures .1 in
     let m : length s ≤ 8192 = c1 .before .before .before .before .pre .1 .0 in (
-      rw (length-elements 2 s) (put-more (c1 .put-number .ensures .0) (put-more (c2 .put-byte .ensures .0) (put-more (c3 .put-number2 .ensures .0) (put-more (c4 .put-samples .ensures .0) (c5 .put-byte2 .ensures .0))))),
-      omega (arith, l, m, c1 .put-number .ensures .1, c2 .put-byte .ensures .1, c3 .put-number2 .ensures .1, c5 .put-byte2 .ensures .1),
+      rw (length-elements 2 s) (put-more (c1 .put-number .ensures .0) (put-more (c2 .put-field .ensures .0) (put-more (c3 .put-samples .ensures .0) (c4 .put-byte .ensures .0)))),
+      omega (arith, l, m, c1 .put-number .ensures .1, c2 .put-field .ensures .1, c4 .put-byte .ensures .1),
     )
 
 pub put-period-spec : {M : Type 1} → statement M
@@ -49,10 +45,9 @@ put-period-spec =
     tie.close
     (tie.spec
     put-number-requires
-    put-byte-requires
-    cast-put-number
-    put-number-requires-2
+    cast-put-field
+    put-field-requires
     put-samples-requires
-    put-byte-requires-2
+    put-byte-requires
     same-length
     returns)

@@ -7,20 +7,14 @@ use Rattle.lines.proofs.put_summary.Tie as tie
 put-number-requires : tie.Need-put-number-requires
 put-number-requires c κs = search needs
 
+put-field-requires : tie.Need-put-field-requires
+put-field-requires c κs = search needs
+
+put-field-requires-2 : tie.Need-put-field-requires-2
+put-field-requires-2 c κs = search needs
+
 put-byte-requires : tie.Need-put-byte-requires
 put-byte-requires c κs = search needs
-
-put-number-requires-2 : tie.Need-put-number-requires-2
-put-number-requires-2 c κs = search needs
-
-put-byte-requires-2 : tie.Need-put-byte-requires-2
-put-byte-requires-2 c κs = search needs
-
-put-number-requires-3 : tie.Need-put-number-requires-3
-put-number-requires-3 c κs = search needs
-
-put-byte-requires-3 : tie.Need-put-byte-requires-3
-put-byte-requires-3 c κs = search needs
 
 same-length : tie.Need-same-length
 same-length c = search needs
@@ -28,23 +22,19 @@ same-length c = search needs
 returns : tie.Need-returns
 unfolding summary
 returns c =
-    let c6 = c .before .before in
-    let c5 = c6 .before .before .before .before in
-    let c4 = c5 .before .before .before .before in
+    let c4 = c .before .before in
     let c3 = c4 .before .before .before .before in
     let c2 = c3 .before .before .before .before in
     let c1 = c2 .before .before .before .before in
-    (put-more (c1 .put-number .ensures .0) (put-more (c2 .put-byte .ensures .0) (put-more (c3 .put-number2 .ensures .0) (put-more (c4 .put-byte2 .ensures .0) (put-more (c5 .put-number3 .ensures .0) (c6 .put-byte3 .ensures .0))))), search needs)
+    (put-more (c1 .put-number .ensures .0) (put-more (c2 .put-field .ensures .0) (put-more (c3 .put-field2 .ensures .0) (c4 .put-byte .ensures .0))), search needs)
 
 pub put-summary-spec : {M : Type 1} → statement M
 put-summary-spec =
     tie.close
     (tie.spec
     put-number-requires
+    put-field-requires
+    put-field-requires-2
     put-byte-requires
-    put-number-requires-2
-    put-byte-requires-2
-    put-number-requires-3
-    put-byte-requires-3
     same-length
     returns)

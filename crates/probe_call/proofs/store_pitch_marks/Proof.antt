@@ -31,7 +31,7 @@ store-marks-requires c κs =
     let m = pitchMarks (c .before .before .before .before .before .before .before .before .args .rate) (sheetOf (c .before .before .before .before .before .before .before .before .args .sheet .now) .targets) in
     let k = c .before .before .before .count .given in
     let e = checked-made 16777215 m _ _ _ (sym (c .before .before .before .before .before .check-marks .ensures .0) ∙ k .1) in
-    record { places = c .before .before .before .before .before .before .before .before .pre; spoken = e .0; room = omega (arith, e .1, c .before .if1 .left) }
+    record { places = c .before .before .before .before .before .before .before .before .pre; spoken = e .0; room = omega (arith, c .before .if1 .left) }
 
 cast-result : tie.Need-cast-result
 cast-result c =

@@ -10,11 +10,11 @@ target-ends-requires c κs = search needs
 add-middle : tie.Need-add-middle
 add-middle c = search needs
 
-add-t8 : tie.Need-add-t8
-add-t8 c = search needs
+add-t9 : tie.Need-add-t9
+add-t9 c = search needs
 
 returns : tie.Need-returns
-returns c = let k = c .before .before in ap (pairOf (k .before .args .e)) (k .target-ends .ensures)
+returns c = let k = c .before .before in ap (pairOf (k .before .args .pair) (k .before .args .e)) (k .target-ends .ensures)
 
 pub unit-pair-spec : {M : Type 1} → statement M
-unit-pair-spec = tie.close (tie.spec target-ends-requires add-middle add-t8 returns)
+unit-pair-spec = tie.close (tie.spec target-ends-requires add-middle add-t9 returns)

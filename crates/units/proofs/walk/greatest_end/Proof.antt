@@ -19,8 +19,11 @@ first-pair-requires c κs = (c .before .before .before .pre, omega arith)
 
 loop-holds : tie.Need-loop-holds Inv-loop μ-loop
 loop-holds c =
-    let a = c .before .before .before .before in
-    (c .first-pair .ensures .0 .0, greatest-first (a .args .sheet .now) (a .args .rate) (a .args .places .segments .count) (c .first-pair .result) (c .first-pair .ensures .1))
+    let a = c .before .before .before .before in (
+      c .first-pair .ensures .0 .0,
+      greatest-first (a .args .sheet .now) (a .args .rate) (a .args .places .segments .count) (c .first-pair .result) (c .first-pair .ensures .0 .1)
+          (c .first-pair .ensures .1),
+    )
 
 next-pair-requires : tie.Need-next-pair-requires Inv-loop μ-loop
 next-pair-requires c κs = (c .before .before .before .loop .inv .0, omega arith)
@@ -35,8 +38,11 @@ loop-again : tie.Need-loop-again Inv-loop μ-loop
 loop-again c =
     let k = c .before .before in
     let l = k .before .before .before .before in
-    let a = l .before .before .before .before .before in
-    (k .next-pair .ensures .0 .0, greatest-next (a .args .sheet .now) (a .args .rate) _ (l .loop .walk) (k .next-pair .result) (l .loop .greatest) (l .loop .inv .1) (k .next-pair .ensures .1) _ (c .greatest-with .ensures))
+    let a = l .before .before .before .before .before in (
+      k .next-pair .ensures .0 .0,
+      greatest-next (a .args .sheet .now) (a .args .rate) _ (l .loop .walk) (k .next-pair .result) (l .loop .greatest) (l .loop .inv .1) (k .next-pair .ensures) _
+          (c .greatest-with .ensures),
+    )
 
 returns-2 : tie.Need-returns-2 Inv-loop μ-loop
 returns-2 c =

@@ -1,0 +1,2 @@
+-- Laws about the report from C.
+pub mod ReportLaws

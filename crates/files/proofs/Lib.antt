@@ -1,0 +1,2 @@
+-- Laws about files read and written.
+pub mod CountLaws

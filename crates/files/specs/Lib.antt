@@ -1,0 +1,1 @@
+-- The root of files' definitions: there are none.
