@@ -1,15 +1,14 @@
 //! What a call must show: where it is spoken by the Rust, where it is refused
 //! by document 01.
 
-use crate::call::{self, Join, Settings};
-use crate::diphone::access;
-use crate::diphone::DiphoneVoice;
+use crate::call::{self, Settings};
 use crate::dsp;
 use crate::lent::{Buffers, WIDTHS};
-use crate::period_report::{self, PeriodReport};
+use crate::period_report::{self, Line};
 use crate::reference::{self, Filled, Fitness, Parsed};
 use crate::refusal::Refusal;
 use crate::sheet::{self, Sheet};
+use crate::taking::{Taken, Taking, Tally};
 use crate::voicefile::{self, Voice};
 
 pub const SHORT_BUFFER: usize = 13;
@@ -35,7 +34,8 @@ pub struct Spoken {
     /// The elements that each buffer must have room for.
     pub needed: [usize; 6],
     pub periods: Vec<Vec<i16>>,
-    pub report: PeriodReport,
+    pub lines: Vec<Line>,
+    pub tally: Tally,
 }
 
 /// What a pull shows: its number, and every byte of its slice afterwards.
@@ -100,19 +100,13 @@ fn speak(
     };
     let filled = reference::fill(&rust, sheet, settings);
     assert_eq!(filled.marks, marks, "marks of the Rust and of document 01");
-    let simple = settings.join == Join::Simple;
-    let report = period_report::told(&filled, &periods, simple);
-    Some(spoken(voice, &rust, &filled, periods, report))
+    let taking = Taking::new(voice, &rust, &filled, settings.join);
+    Some(spoken(voice, &filled, periods, &taking))
 }
 
-fn spoken(
-    read: &Voice,
-    rust: &DiphoneVoice,
-    filled: &Filled,
-    periods: Vec<Vec<i16>>,
-    report: PeriodReport,
-) -> Spoken {
-    let taken = &filled.taken;
+fn spoken(read: &Voice, filled: &Filled, periods: Vec<Vec<i16>>, taking: &Taking) -> Spoken {
+    let taken = &taking.expected;
+    let residual = &filled.taken.residual;
     let lengths: Vec<usize> = periods.iter().map(Vec::len).collect();
     assert_eq!(taken.sizes, lengths, "sizes and lengths of the periods");
     let index: Vec<usize> = read.index.iter().map(|entry| entry.at).collect();
@@ -121,7 +115,7 @@ fn spoken(
         summary: [
             read.header.rate as usize,
             taken.sizes.len(),
-            taken.residual.len(),
+            residual.len(),
             filled.marks.len(),
             read.order(),
             index.len(),
@@ -131,7 +125,7 @@ fn spoken(
             filled.marks.len(),
             taken.sizes.len(),
             rows.len(),
-            taken.residual.len(),
+            residual.len(),
             decode_room(read),
         ],
         filled: [
@@ -139,11 +133,12 @@ fn spoken(
             packed(&filled.marks, WIDTHS[1]),
             packed(&taken.sizes, WIDTHS[2]),
             packed(&rows, WIDTHS[3]),
-            taken.residual.clone(),
-            decoded(read, rust, filled),
+            residual.clone(),
+            decoded(read, taken),
         ],
         periods,
-        report,
+        lines: lines(filled, taken),
+        tally: taking.tally(filled),
     }
 }
 
@@ -161,46 +156,35 @@ fn decode_room(voice: &Voice) -> usize {
     }
 }
 
+/// The report's lines. A period begins at the mark before its own, the first
+/// one at 0, and the last ends with the samples.
+fn lines(filled: &Filled, taken: &Taken) -> Vec<Line> {
+    let lines = period_report::lines(&taken.takers, &taken.sizes);
+    let firsts: Vec<usize> = lines.iter().map(|line| line[2]).collect();
+    let begins: Vec<usize> = [&[0], &filled.marks[..]].concat();
+    assert!(begins.starts_with(&firsts), "firsts, and the marks before");
+    let samples = lines.last().map_or(0, |[_, _, first, size]| first + size);
+    assert_eq!(
+        filled.taken.residual.len(),
+        samples,
+        "samples of all periods"
+    );
+    lines
+}
+
 /// What of the decode buffer is written: each taken period of size above 0 is
 /// decoded to its front, over the one before.
-fn decoded(read: &Voice, rust: &DiphoneVoice, filled: &Filled) -> Vec<u8> {
+fn decoded(read: &Voice, taken: &Taken) -> Vec<u8> {
     let mut front = Vec::new();
     if !read.is_g721() {
         return front;
     }
-    let numbers = taken_periods(read, rust, filled);
-    for (number, size) in numbers.iter().zip(&filled.taken.sizes) {
+    for (number, size) in taken.numbers.iter().zip(&taken.sizes) {
         if *size > 0 {
             front = over(&dsp::access::decode_adpcm(read.stored(*number)), &front);
         }
     }
     front
-}
-
-/// The voice's period that each taken size comes from.
-fn taken_periods(read: &Voice, rust: &DiphoneVoice, filled: &Filled) -> Vec<usize> {
-    let mut numbers = Vec::new();
-    let mut end_before = 0;
-    for unit in &filled.units {
-        let samples: usize = (unit.first_period..unit.last_period)
-            .map(|period| read.samples(period))
-            .sum();
-        let span = unit.target_end.saturating_sub(end_before).max(1);
-        let pace = samples as f32 / span as f32;
-        let mut place = 0.0f32;
-        while let Some(size) = filled.taken.sizes.get(numbers.len()) {
-            if filled.marks[numbers.len()] > unit.target_end {
-                break;
-            }
-            numbers.push(access::nearest_period(rust, unit, place));
-            place += *size as f32 * pace;
-        }
-        end_before = unit.target_end;
-    }
-    let rows: Vec<u16> = numbers.iter().flat_map(|n| read.row(*n)).collect();
-    assert_eq!(filled.taken.rows, rows, "rows of the taken periods");
-    assert_eq!(filled.taken.sizes.len(), numbers.len(), "taken periods");
-    numbers
 }
 
 /// A buffer whose front was filled.

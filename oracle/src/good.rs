@@ -5,14 +5,14 @@ use crate::call::{self, Ending, Filter, Join, Settings, FILTERS, JOINS};
 use crate::diphone::access;
 use crate::diphone::DiphoneVoice;
 use crate::dsp;
-use crate::gen::sheets;
 use crate::gen::voices::{self, Extent, Vocabulary, VoiceSpec};
-use crate::period_report;
+use crate::gen::{empty_heads, sheets};
 use crate::reference::{self, Fitness, Parsed};
 use crate::refusal::{shown, Refusal, REFUSALS};
 use crate::report::Report;
 use crate::rng::Rng;
 use crate::sheet::{self, Sheet};
+use crate::taking::{self, Taking};
 use crate::voicefile::{self, Voice};
 
 const SHEETS_PER_VOICE: usize = 3;
@@ -33,9 +33,11 @@ pub struct Counts {
     /// Pairs by the name found: the first tried, the second, none.
     pub found: [u64; 3],
     pub laws: u64,
-    /// Calls whose marks were taken unit by unit too, their lines, and those of
-    /// a unit before the one whose period made the mark.
-    pub told_twice: [u64; 3],
+    /// Calls whose marks were taken unit by unit too, and their marks.
+    pub told_twice: [u64; 2],
+    /// Periods on the list of the simple join, and calls and rows that are not
+    /// the Rust's.
+    pub listed: [u64; 3],
     /// Calls not handed to the Rust: time cannot advance, too many marks, long.
     pub guarded: [u64; 3],
 }
@@ -69,8 +71,7 @@ pub fn run(seed: u64, case: u64, report: &mut Report, counts: &mut Counts) {
 pub fn run_empty_heads(seed: u64, case: u64, report: &mut Report, counts: &mut Counts) {
     let rng = &mut Rng::for_case(seed, 4_500_000 + case);
     let words = voices::vocabulary(rng);
-    let spec = voices::voice(rng, &words, Extent::Any, true);
-    let spec = voices::with_empty_heads(rng, &spec);
+    let spec = empty_heads::voice(rng, &words, case);
     let sheet = sheets::sheet(rng, &words, spec.header.rate);
     let file = voices::file(&spec.sections());
     let Some(voice) = Opened::new(&file, case, report) else {
@@ -325,13 +326,14 @@ impl Case<'_> {
             format!("case {case}: {settings:?}: the Rust panics on {sheet:?}")
         });
         let periods = periods?;
+        let filled = reference::fill(&voice.rust, sheet, settings);
+        let taking = Taking::new(&voice.read, &voice.rust, &filled, settings.join);
         // What is filled does not depend on the filter.
         if settings.filter == Filter::Fixed {
-            let filled = reference::fill(&voice.rust, sheet, settings);
             self.compare_filled(voice, sheet, settings, marks, &filled);
-            self.compare_periods(voice, settings, &periods, &filled);
             self.compare_takers(voice, settings, &filled);
         }
+        self.compare_periods(voice, settings, &periods, &filled, &taking);
         let join = JOINS.iter().position(|join| *join == settings.join)?;
         let filter = FILTERS
             .iter()
@@ -372,23 +374,30 @@ impl Case<'_> {
         }
     }
 
-    /// The fixed filter run over what was filled gives the periods again.
+    /// The filter run over the excitation with the expected rows gives the
+    /// Rust's periods again.
     fn compare_periods(
         &mut self,
         voice: &Opened,
         settings: Settings,
         periods: &[Vec<i16>],
         filled: &reference::Filled,
+        taking: &Taking,
     ) {
         let case = self.case;
+        let taken = &taking.expected;
         let lengths: Vec<usize> = periods.iter().map(Vec::len).collect();
-        self.report.equal(&filled.taken.sizes, &lengths, || {
+        self.report.equal(&taken.sizes, &lengths, || {
             format!("case {case}: {settings:?}: sizes")
         });
         let header = access::header(&voice.rust);
-        let again = dsp::lpc_resynthesise(
-            &filled.taken.rows,
-            &filled.taken.sizes,
+        let resynthesise = match settings.filter {
+            Filter::Fixed => dsp::lpc_resynthesise,
+            Filter::Float => dsp::lpc_resynthesise_float,
+        };
+        let again = resynthesise(
+            &taken.rows,
+            &taken.sizes,
             &filled.taken.residual,
             header.coeff_min,
             header.coeff_range,
@@ -397,9 +406,12 @@ impl Case<'_> {
         self.report.check(again == periods.concat(), || {
             format!("case {case}: {settings:?}: samples of the filled buffers")
         });
+        let tally = taking.tally(filled);
+        let more = [tally.listed, usize::from(tally.lines > 0), tally.rows];
+        add(&mut self.counts.listed, more);
     }
 
-    /// The unit that took each mark, told twice by the Rust: by labels, and by
+    /// The unit that takes each mark in the Rust, told twice: by labels, and by
     /// how many marks the call's first units take, for each number of units.
     fn compare_takers(&mut self, voice: &Opened, settings: Settings, filled: &reference::Filled) {
         let units = &filled.units;
@@ -407,7 +419,7 @@ impl Case<'_> {
         if filled.marks.len() < 2 || cost > MOST_TAKEN {
             return;
         }
-        let takers = period_report::takers(filled);
+        let takers = taking::takers(filled);
         let mut before = 0;
         let mut again = Vec::new();
         for count in 1..=units.len() {
@@ -418,13 +430,14 @@ impl Case<'_> {
         }
         let case = self.case;
         self.report.equal(&again, &takers, || {
-            format!("case {case}: {settings:?}: units that took the marks")
+            format!("case {case}: {settings:?}: units that take the marks")
         });
-        let simple = settings.join == Join::Simple;
-        let early = period_report::taking(filled, &takers, simple).early;
-        let more = [1, takers.len(), early];
-        for (sum, more) in self.counts.told_twice.iter_mut().zip(more) {
-            *sum += more as u64;
-        }
+        add(&mut self.counts.told_twice, [1, takers.len()]);
+    }
+}
+
+fn add<const N: usize>(sums: &mut [u64; N], more: [usize; N]) {
+    for (sum, more) in sums.iter_mut().zip(more) {
+        *sum += more as u64;
     }
 }

@@ -55,6 +55,7 @@ mod statements;
 #[cfg(feature = "probe_state")]
 mod states;
 mod store;
+mod taking;
 #[cfg(feature = "probe")]
 mod voicecodes;
 mod voicefile;

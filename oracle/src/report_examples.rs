@@ -1,14 +1,17 @@
-//! Period reports with their lines written out, and wrong lines that must be
-//! told apart.
+//! Period reports with their lines and rows written out, and wrong ones that
+//! must be told apart.
 
 use crate::call::{Filter, Join, Settings};
-use crate::expected::{self, Given, Most};
+use crate::expected::{self, Given, Most, Spoken};
 use crate::gen::damaged_calls::{entry, two_periods};
 use crate::gen::voices::{file, plain, VoiceSpec};
 use crate::lines;
-use crate::period_report::{self, Line, Taking, LINE_BYTES};
+use crate::period_report::{self, Line, LINE_BYTES};
+use crate::reference::{self, Parsed};
 use crate::report::Report;
 use crate::sheet::{write, Segment, Sheet, Target, Value};
+use crate::taking::{Taking, Tally};
+use crate::voicefile;
 
 const ANY: Most = Most {
     marks: usize::MAX,
@@ -21,18 +24,26 @@ pub fn run(report: &mut Report) {
     ends(report);
     without_lines(report);
     wrong_lines(report);
+    falls(report);
 }
 
-/// A call with its report by the Rust.
+/// A call with its report.
 struct Example {
     voice: VoiceSpec,
     sheet: Sheet,
     join: Join,
 }
 
+/// A period written out: its line, its row, and the pair, half and row that the
+/// Rust gives it where they are others.
+type Period = (Line, u16, Option<(usize, usize, u16)>);
+
+/// The lines and the rows of a call.
+type Answer = (Vec<Line>, Vec<u16>);
+
 impl Example {
     /// Whatever the filter is, which plays no part.
-    fn reported(&self) -> [(Vec<Line>, Taking); 2] {
+    fn spoken(&self) -> [Spoken; 2] {
         let voice = file(&self.voice.sections());
         [Filter::Fixed, Filter::Float].map(|filter| {
             let settings = Settings {
@@ -40,23 +51,55 @@ impl Example {
                 ..Settings::new(self.join)
             };
             match expected::given(&voice, &write(&self.sheet), settings, ANY) {
-                Some(Given::Spoken(spoken)) => (spoken.report.lines, spoken.report.taking),
+                Some(Given::Spoken(spoken)) => spoken,
                 _ => panic!("an example is refused"),
             }
         })
     }
 
-    fn must_show(&self, lines: &[Line], taking: Taking, what: &str, report: &mut Report) {
-        for found in self.reported() {
-            report.equal(&(lines.to_vec(), taking), &found, || what.to_string());
+    fn must_show(&self, lines: &[Line], tally: Tally, what: &str, report: &mut Report) {
+        for found in self.spoken() {
+            let found = (found.lines, found.tally);
+            report.equal(&(lines.to_vec(), tally), &found, || what.to_string());
         }
+    }
+
+    /// The call gives these periods, and the Rust what stands beside them.
+    fn must_give(&self, periods: &[Period], tally: Tally, what: &str, report: &mut Report) {
+        let answer: Answer = periods.iter().map(|(line, row, _)| (*line, *row)).unzip();
+        self.must_show(&answer.0, tally, what, report);
+        for found in self.spoken() {
+            let rows: Vec<usize> = answer.1.iter().map(|row| usize::from(*row)).collect();
+            let rows = expected::packed(&rows, 2);
+            report.equal(&rows, &found.filled[3], || format!("{what}: rows"));
+        }
+        let mut theirs = answer.clone();
+        for (i, (_, _, other)) in periods.iter().enumerate() {
+            if let Some(other) = other {
+                replace(&mut theirs, i, *other);
+            }
+        }
+        report.equal(&theirs, &self.by_rust(), || format!("{what}: the Rust"));
+    }
+
+    /// What the Rust gives.
+    fn by_rust(&self) -> Answer {
+        let file = file(&self.voice.sections());
+        let (Ok(voice), Parsed::Voice(rust)) = (voicefile::open(&file), reference::parse(&file))
+        else {
+            panic!("an example voice is refused");
+        };
+        let filled = reference::fill(&rust, &self.sheet, Settings::new(self.join));
+        let taken = Taking::new(&voice, &rust, &filled, self.join).by_rust;
+        let lines = period_report::lines(&taken.takers, &taken.sizes);
+        (lines, taken.rows)
     }
 }
 
 /// Document 01's example, as the marking program prints it.
 fn printed(report: &mut Report) {
-    let [(found, _), _] = example().reported();
-    let printed = lines::reported(&found);
+    let [found, _] = example().spoken();
+    let printed = lines::reported(&found.lines);
     let expected = "1 1 1 0 2\n2 1 2 2 3\n".to_string();
     report.equal(&expected, &printed, || "printed report".into());
 }
@@ -69,49 +112,152 @@ fn example() -> Example {
     }
 }
 
-/// Periods of no samples at the head of a second half and at the head of a
-/// second pair go to the unit before; a unit without periods takes one too.
+/// Periods of no samples at the heads of units, simple join.
 fn empty_heads(report: &mut Report) {
-    let lines = [
-        [1, 1, 0, 2],
-        [1, 1, 2, 0],
-        [1, 1, 2, 0],
-        [1, 2, 2, 3],
-        [1, 2, 5, 0],
-        [2, 1, 5, 4],
-    ];
-    let taking = Taking {
-        early: 2,
-        early_pairs: 1,
-        idle: 1,
-        ..Taking::default()
-    };
-    with_empty_heads(&["a", "b", "c"]).must_show(&lines, taking, "empty heads", report);
-
-    let lines = [[1, 1, 0, 0], [1, 1, 0, 0], [2, 1, 0, 4]];
-    let taking = Taking {
-        by_empty: 2,
-        idle: 2,
-        ..taking
-    };
-    let call = with_empty_heads(&["x", "b", "c"]);
-    call.must_show(&lines, taking, "a unit without periods", report);
+    second_half(report);
+    second_pair(report);
+    without_periods(report);
+    first_empty(report);
+    whole_units(report);
 }
 
-/// Six periods of 2, 0, 0, 3, 0 and 4 samples.
-fn with_empty_heads(names: &[&str]) -> Example {
-    let mut voice = plain(6, vec![0, 2, 2, 2, 5, 5, 9]);
-    voice.residual = vec![0x9F; 9];
-    voice.entries = vec![
-        entry("a-b", 0, [2, 2]),
-        entry("b-c", 4, [2, 0]),
-        entry("x-b", 4, [0, 1]),
+fn second_half(report: &mut Report) {
+    let periods = [
+        ([1, 1, 0, 2], 10, None),
+        ([1, 2, 2, 0], 30, Some((1, 1, 10))),
+        ([1, 2, 2, 3], 30, None),
     ];
+    let tally = Tally {
+        listed: 1,
+        lines: 1,
+        rows: 1,
+        ..Tally::default()
+    };
+    let call = simple(&[2, 0, 3], &[("pau-aa", 0, [1, 2])], &["pau", "aa"]);
+    call.must_give(&periods, tally, "head of a second half", report);
+}
+
+/// The empty period at the end of the first half is not on the list.
+fn second_pair(report: &mut Report) {
+    let periods = [
+        ([1, 1, 0, 2], 10, None),
+        ([1, 1, 2, 0], 20, None),
+        ([1, 2, 2, 0], 40, Some((1, 1, 20))),
+        ([1, 2, 2, 3], 40, None),
+        ([2, 1, 5, 0], 60, Some((1, 2, 40))),
+        ([2, 1, 5, 4], 60, None),
+    ];
+    let tally = Tally {
+        listed: 2,
+        lines: 2,
+        pairs: 1,
+        rows: 2,
+        idle: 1,
+        ..Tally::default()
+    };
+    let entries = [("a-b", 0, [2, 2]), ("b-c", 4, [2, 0])];
+    let call = simple(&[2, 0, 0, 3, 0, 4], &entries, &["a", "b", "c"]);
+    call.must_give(&periods, tally, "head of a second pair", report);
+}
+
+/// The first unit has no periods: in the Rust it takes two, with the row before
+/// its place.
+fn without_periods(report: &mut Report) {
+    let periods = [
+        ([1, 2, 0, 0], 50, Some((1, 1, 40))),
+        ([2, 1, 0, 0], 60, Some((1, 1, 40))),
+        ([2, 1, 0, 4], 60, None),
+    ];
+    let tally = Tally {
+        listed: 2,
+        whole: 1,
+        lines: 2,
+        pairs: 1,
+        far: 1,
+        rows: 2,
+        idle: 2,
+        ..Tally::default()
+    };
+    let entries = [("b-c", 4, [2, 0]), ("x-b", 4, [0, 1])];
+    let call = simple(&[2, 0, 0, 3, 0, 4], &entries, &["x", "b", "c"]);
+    call.must_give(&periods, tally, "a unit without periods", report);
+}
+
+/// The head of the first unit is not on the list.
+fn first_empty(report: &mut Report) {
+    let periods = [
+        ([1, 1, 0, 0], 10, None),
+        ([1, 2, 0, 0], 30, Some((1, 1, 10))),
+        ([1, 2, 0, 2], 30, None),
+    ];
+    let tally = Tally {
+        listed: 1,
+        lines: 1,
+        rows: 1,
+        ..Tally::default()
+    };
+    let call = simple(&[0, 0, 2], &[("a-b", 0, [1, 2])], &["a", "b"]);
+    call.must_give(&periods, tally, "a first unit that is empty", report);
+}
+
+/// A run at a head, a unit that is all empty, one without periods, another that
+/// is all empty, and a head with an empty period at the unit's end.
+fn whole_units(report: &mut Report) {
+    let periods = [
+        ([1, 1, 0, 3], 10, None),
+        ([1, 1, 3, 0], 20, None),
+        ([1, 2, 3, 0], 50, Some((1, 1, 20))),
+        ([1, 2, 3, 0], 50, Some((1, 1, 20))),
+        ([1, 2, 3, 2], 50, None),
+        ([2, 1, 5, 0], 70, Some((1, 2, 50))),
+        ([2, 1, 5, 0], 70, Some((1, 2, 50))),
+        ([3, 1, 5, 0], 80, Some((1, 2, 50))),
+        ([3, 2, 5, 0], 100, Some((1, 2, 50))),
+        ([3, 2, 5, 1], 100, None),
+        ([3, 2, 6, 0], 110, None),
+    ];
+    let tally = Tally {
+        listed: 6,
+        in_runs: 2,
+        whole: 2,
+        lines: 6,
+        pairs: 4,
+        far: 2,
+        rows: 6,
+        idle: 1,
+        ..Tally::default()
+    };
+    let sizes = [3, 0, 0, 0, 2, 0, 0, 0, 0, 1, 0];
+    let entries = [("a-b", 0, [2, 3]), ("b-c", 5, [2, 0]), ("c-d", 7, [1, 3])];
+    let call = simple(&sizes, &entries, &["a", "b", "c", "d"]);
+    call.must_give(&periods, tally, "runs and whole units", report);
+}
+
+/// A call of the simple join on a mu-law voice of order 1 with periods of these
+/// sizes, whose rows are 10, 20, 30 and so on.
+fn simple(sizes: &[u32], entries: &[(&str, u16, [u8; 2])], names: &[&str]) -> Example {
+    let count = sizes.len() as u32;
+    let end = |i: usize| sizes[..i].iter().sum();
+    let mut voice = plain(count, (0..=sizes.len()).map(end).collect());
+    voice.header.order = 1;
+    voice.rows = (1..=count as u16).map(|number| 10 * number).collect();
+    voice.residual = vec![0x9F; end(sizes.len()) as usize];
+    let entries = entries.iter();
+    voice.entries = entries
+        .map(|(name, start, halves)| entry(name, *start, *halves))
+        .collect();
     Example {
         voice,
         sheet: named(names, &[]),
         join: Join::Simple,
     }
+}
+
+/// Gives a period another pair, half and row.
+fn replace(answer: &mut Answer, i: usize, (pair, half, row): (usize, usize, u16)) {
+    answer.0[i][0] = pair;
+    answer.0[i][1] = half;
+    answer.1[i] = row;
 }
 
 /// Target ends of the modified join that fall, that lie before the last mark,
@@ -128,14 +274,14 @@ fn ends(report: &mut Report) {
         [1, 2, 250, 125],
         [2, 1, 375, 125],
     ];
-    let taking = |idle, left_over| Taking {
+    let tally = |idle, left_over| Tally {
         idle,
         left_over,
-        ..Taking::default()
+        ..Tally::default()
     };
-    call(&[0.02, 0.08, 0.0]).must_show(&lines, taking(1, 0), "ends that fall", report);
-    call(&[0.02, 0.03]).must_show(&lines[..1], taking(1, 3), "marks left over", report);
-    call(&[0.0, 0.0]).must_show(&[], taking(2, 4), "no mark taken", report);
+    call(&[0.02, 0.08, 0.0]).must_show(&lines, tally(1, 0), "ends that fall", report);
+    call(&[0.02, 0.03]).must_show(&lines[..1], tally(1, 3), "marks left over", report);
+    call(&[0.0, 0.0]).must_show(&[], tally(2, 4), "no mark taken", report);
 }
 
 /// Join none, one segment, one mark.
@@ -157,14 +303,14 @@ fn without_lines(report: &mut Report) {
         (segment, "one segment"),
         (mark, "one mark"),
     ] {
-        call.must_show(&[], Taking::default(), what, report);
+        call.must_show(&[], Tally::default(), what, report);
     }
 }
 
 /// Each number of each line made wrong, and lines that are missing. A wrong
 /// first or size also does not add up.
 fn wrong_lines(report: &mut Report) {
-    let [(lines, _), _] = example().reported();
+    let [Spoken { lines, .. }, _] = example().spoken();
     let samples = 5;
     let seen = |found: &[Line]| {
         let found = period_report::read(&period_report::bytes(found), found.len());
@@ -191,6 +337,24 @@ fn wrong_lines(report: &mut Report) {
     report.equal(&(LINE_BYTES * lines.len()), &length, || {
         "bytes of the lines".into()
     });
+}
+
+/// Pairs, and halves within a pair, that fall or not.
+fn falls(report: &mut Report) {
+    let cases: [(&[[usize; 2]], bool); 6] = [
+        (&[], false),
+        (&[[1, 2]], false),
+        (&[[1, 1], [1, 1], [1, 2], [1, 2], [2, 1], [4, 2]], false),
+        (&[[1, 2], [2, 1], [2, 2], [3, 1]], false),
+        (&[[1, 1], [2, 1], [1, 2]], true),
+        (&[[1, 1], [1, 2], [1, 1]], true),
+    ];
+    for (units, expected) in cases {
+        let line = |unit: &[usize; 2]| [unit[0], unit[1], 0, 0];
+        let lines: Vec<Line> = units.iter().map(line).collect();
+        let found = period_report::fall(&lines).is_some();
+        report.equal(&expected, &found, || format!("a fall in {units:?}"));
+    }
 }
 
 fn named(names: &[&str], ends: &[f32]) -> Sheet {

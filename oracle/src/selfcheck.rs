@@ -58,7 +58,7 @@ pub fn run(args: &Args) -> bool {
     check_voices(args.seed, &mut report, &mut counts);
     check_sheets(args.seed, &mut report, &mut counts);
     check_calls(&mut report, &mut counts);
-    check_reached(&mut report, &counts.damages);
+    check_reached(&mut report, &counts.damages, &good_counts.listed);
     print(args.seed, &report, &counts, &good_counts);
     report.failures == 0
 }
@@ -177,11 +177,12 @@ fn run_accepted(case: &LabelledCall, report: &mut Report) -> bool {
     true
 }
 
-/// Every number from 1 to 12 must have been met.
-fn check_reached(report: &mut Report, damages: &ByNumber) {
+/// Every number from 1 to 12 must have been met, and the list.
+fn check_reached(report: &mut Report, damages: &ByNumber, listed: &[u64]) {
     for (number, count) in damages.iter().enumerate() {
         report.check(*count > 0, || format!("number {number} was not reached"));
     }
+    report.check(!listed.contains(&0), || format!("the list: {listed:?}"));
 }
 
 fn print(seed: u64, report: &Report, counts: &Counts, good: &good::Counts) {
@@ -246,10 +247,11 @@ fn print_calls(good: &good::Counts) {
          without units, {long} too long"
     );
     println!("  laws on longer sheets and extended voices: {}", good.laws);
-    let [calls, lines, early] = good.told_twice;
+    let [calls, marks] = good.told_twice;
+    println!("  units that take the marks told unit by unit too: {calls} calls, {marks} marks");
+    let [periods, calls, rows] = good.listed;
     println!(
-        "  period reports told unit by unit too: {calls}, of {lines} lines, {early} of them of a \
-         unit before their own"
+        "  simple join: {periods} periods on the list in {calls} calls, {rows} rows not the Rust's"
     );
 }
 

@@ -1,5 +1,6 @@
 /* Makes document 01's example call through the C interface: what it needs, its plan, its pulls, its
- * report; then calls and pulls that are refused. Ends with 0 if all is as it should be. */
+ * report; then calls with empty periods, and calls and pulls that are refused. Ends with 0 if all is as it
+ * should be. */
 #define TEST "call"
 #include "example.h"
 
@@ -165,8 +166,9 @@ static uint8_t samples[32];
 static int64_t pull_with(size_t state_length, size_t rows_length, size_t slice_length)
 {
     memset(samples, GUARD, sizeof samples);
-    return diphone_pull(lent[STATE], state_length, lent[SIZES], 8, rows_length > 0 ? lent[ROWS] : NULL,
-                        rows_length, lent[EXCITATION], 5, slice_length > 0 ? samples : NULL, slice_length);
+    return diphone_pull(lent[STATE], state_length, lent[SIZES], lengths[SIZES],
+                        rows_length > 0 ? lent[ROWS] : NULL, rows_length, lent[EXCITATION],
+                        lengths[EXCITATION], slice_length > 0 ? samples : NULL, slice_length);
 }
 
 static int64_t pull(size_t slice_length)
@@ -276,12 +278,13 @@ static void untouched_report(uint32_t settings, size_t lines_length, uint32_t nu
     expect(all_guard(lines, 0, sizeof lines), what);
 }
 
-/* Two lines of four numbers, and nothing past them. */
-static void two_lines(const uint32_t *numbers, const char *what)
+/* So many lines of four numbers, and nothing past them. */
+static void has_lines(size_t count, const uint32_t *numbers, const char *what)
 {
-    for (size_t i = 0; i < 8; i += 1)
-        expect((uint32_t)u64_at(lines, 4 * i) == numbers[i], what);
-    expect(all_guard(lines, 2 * DIPHONE_REPORT_LINE_BYTES, sizeof lines), "bytes past the lines");
+    for (size_t i = 0; i < 4 * count; i += 1)
+        for (size_t k = 0; k < 4; k += 1)
+            expect(lines[4 * i + k] == (uint8_t)(numbers[i] >> 8 * k), what);
+    expect(all_guard(lines, count * DIPHONE_REPORT_LINE_BYTES, sizeof lines), "bytes past the lines");
 }
 
 /* Document 02's lines, in every length that is long enough. */
@@ -293,11 +296,11 @@ static void example_report(void)
         untouched_report(SIMPLE | FIXED, size, DIPHONE_SHORT_BUFFER, "lines too short for the report");
     for (size_t size = 2 * DIPHONE_REPORT_LINE_BYTES; size <= sizeof lines; size += 1) {
         expect(report(SIMPLE | FIXED, size) == 0, "the example is reported");
-        two_lines(numbers, "document 02's lines");
+        has_lines(2, numbers, "document 02's lines");
     }
     for (uint32_t filter = 0; filter <= 12; filter += 4) {
         expect(report(SIMPLE | filter | DIPHONE_FOLD, sizeof lines) == 0, "any filter is reported");
-        two_lines(numbers, "the filter plays no part in the report");
+        has_lines(2, numbers, "the filter plays no part in the report");
     }
 }
 
@@ -330,9 +333,159 @@ static void modified_report(void)
     value(1, 0x42800000);
     for (uint32_t join = MODIFIED; join <= 3; join += 1) {
         expect(report(join, 32) == 0, "a modified join is reported");
-        two_lines(numbers, "the half that took the marks");
+        has_lines(2, numbers, "the half that took the marks");
         untouched_report(join, 31, DIPHONE_SHORT_BUFFER, "lines one byte short");
     }
+}
+
+/* ---- periods of no sample at the heads of units, in the simple join */
+
+enum { MOST_PERIODS = 5, RANGE_16 = 0x41800000 };
+
+/* The pairs pau-aa and perhaps aa-pau: how many periods there are, their sizes, and how many each half has.
+ * Then what a call gives: the pair and half of each period, as two digits, and its row. */
+struct joint {
+    const char *what;
+    uint8_t pairs, periods, sizes[MOST_PERIODS], halves[4], units[MOST_PERIODS], rows[MOST_PERIODS];
+};
+
+/* Order 1, the rows 10, 20 and so on, the entries one after the other; the example's residual. */
+static void joint_voice(uint32_t codec, const struct joint *joint)
+{
+    const uint8_t *halves = joint->halves;
+    uint32_t end = 0;
+
+    begin(joint->periods, 1, RANGE_16, codec);
+    section("sts.lpc", 2 * joint->periods);
+    for (uint8_t i = 1; i <= joint->periods; i += 1) {
+        uint8_t row[2] = {(uint8_t)(10 * i), 0};
+        bytes(row, 2);
+    }
+    section("sts.resoffs", 4 + 4 * joint->periods);
+    u32(0);
+    for (int i = 0; i < joint->periods; i += 1) {
+        end += joint->sizes[i];
+        u32(end);
+    }
+    section("sts.res", 5);
+    bytes(residual, 5);
+    section("dip.index", 4 + 11 * joint->pairs);
+    u32(joint->pairs);
+    entry("pau-aa", 0, halves[0], halves[1]);
+    if (joint->pairs == 2)
+        entry("aa-pau", (uint8_t)(halves[0] + halves[1]), halves[2], halves[3]);
+}
+
+static void joint_sheet(const struct joint *joint)
+{
+    example_sheet();
+    if (joint->pairs == 2) {
+        sheet[0] = 3;
+        sheet_length -= 1;
+        sheet_bytes("\x03pau\x02\x00\x00", 7);
+    }
+}
+
+/* A call's lines, marks, sizes and rows. */
+static void joint_call(uint32_t filter, const struct joint *joint)
+{
+    uint32_t numbers[4 * MOST_PERIODS], end = 0;
+
+    exact(SIMPLE);
+    expect(plan(SIMPLE | filter) == 0, joint->what);
+    for (size_t i = 0; i < joint->periods; i += 1) {
+        uint32_t line[4] = {joint->units[i] / 10, joint->units[i] % 10, end, joint->sizes[i]};
+        memcpy(numbers + 4 * i, line, sizeof line);
+        end += joint->sizes[i];
+        expect(u32_at(MARKS, 4 * i) == end, joint->what);
+        expect(u32_at(SIZES, 4 * i) == joint->sizes[i], joint->what);
+        expect(lent[ROWS][2 * i] == joint->rows[i] && lent[ROWS][2 * i + 1] == 0, joint->what);
+    }
+    past(MARKS, 4 * joint->periods);
+    past(SIZES, 4 * joint->periods);
+    past(ROWS, 2 * joint->periods);
+    expect(report(SIMPLE | filter, joint->periods * DIPHONE_REPORT_LINE_BYTES) == 0, joint->what);
+    has_lines(joint->periods, numbers, joint->what);
+}
+
+/* A mark goes to the unit whose period made it. The row of an empty period is that of the next one in its
+ * unit that has a sample, or else of the unit's last. */
+static void joints(void)
+{
+    static const struct joint all[] = {
+        {"a run", 1, 4, {2, 0, 0, 3}, {1, 3}, {11, 12, 12, 12}, {10, 40, 40, 40}},
+        {"at the head of a pair", 2, 4, {1, 1, 0, 3}, {1, 1, 2, 0}, {11, 12, 21, 21}, {10, 20, 40, 40}},
+        {"a whole unit", 2, 5, {2, 0, 0, 0, 3}, {1, 2, 2, 0}, {11, 12, 12, 21, 21}, {10, 30, 30, 50, 50}},
+        {"after a unit without periods", 2, 4, {2, 0, 3, 0}, {1, 0, 2, 1}, {11, 21, 21, 22},
+         {10, 30, 30, 40}},
+        {"a first unit without periods", 2, 5, {0, 2, 3, 0, 0}, {0, 2, 2, 1}, {12, 12, 21, 21, 22},
+         {20, 20, 30, 40, 50}},
+        {"a first unit of no sample", 1, 3, {0, 0, 5}, {1, 2}, {11, 12, 12}, {10, 30, 30}},
+        {"no sample at all", 2, 5, {0}, {1, 1, 1, 2}, {11, 12, 21, 22, 22}, {10, 20, 30, 50, 50}},
+    };
+
+    for (size_t i = 0; i < sizeof all / sizeof *all; i += 1)
+        for (uint32_t codec = 0; codec < 2; codec += 1) {
+            joint_voice(codec, &all[i]);
+            joint_sheet(&all[i]);
+            joint_call(FIXED, &all[i]);
+            joint_call(FLOAT, &all[i]);
+        }
+}
+
+/* Pulls all periods of a call. An empty one gives 0 and leaves the slice. */
+static void pull_all(uint8_t *spoken)
+{
+    for (size_t i = 0; i < lengths[SIZES]; i += 4) {
+        size_t size = u32_at(SIZES, i);
+        expect(pull(2 * size) == (int64_t)size, "a period, empty or not, is given");
+        expect(all_guard(samples, 2 * size, sizeof samples), "bytes past the period");
+        memcpy(spoken, samples, 2 * size);
+        spoken += 2 * size;
+    }
+    expect(pull(0) == DIPHONE_DONE, "done after the last period");
+}
+
+/* The samples are 8, 132, 0, -8 and -132, by the float filter with -7 for -8. With the first half's row for
+ * the empty period they are the same, and so is the state. */
+static void empty_head_samples(uint32_t filter)
+{
+    uint8_t expected[10] = {8, 0, 132, 0, 0, 0, filter == FIXED ? 0xF8 : 0xF9, 0xFF, 0x7C, 0xFF};
+    uint8_t spoken[2][sizeof expected], states[2][DIPHONE_STATE_BYTES];
+
+    for (int i = 0; i < 2; i += 1) {
+        expect(plan(SIMPLE | filter) == 0, "a call with an empty period");
+        if (i == 1)
+            lent[ROWS][2] = 10;
+        pull_all(spoken[i]);
+        memcpy(states[i], lent[STATE], DIPHONE_STATE_BYTES);
+    }
+    expect(memcmp(spoken[0], expected, sizeof expected) == 0, "the samples beside an empty period");
+    expect(memcmp(spoken[1], expected, sizeof expected) == 0, "no sample turns on an empty period's row");
+    expect(memcmp(states[0], states[1], DIPHONE_STATE_BYTES) == 0, "nor does the state");
+}
+
+/* Document 01's example with a period of no sample at the head of its second half. */
+static void empty_head(void)
+{
+    static const struct joint joint = {"one period", 1, 3, {2, 0, 3}, {1, 2}, {11, 12, 12}, {10, 30, 30}};
+    static const uint32_t numbers[12] = {1, 1, 0, 2, 1, 2, 2, 0, 1, 2, 2, 3};
+    static const uint8_t rows[6] = {10, 0, 30, 0, 30, 0};
+
+    joint_voice(0, &joint);
+    joint_sheet(&joint);
+    exact(SIMPLE);
+    expect(six(need, 1, 3, 3, 3, 5, 0), "what a call with an empty period needs");
+    for (uint32_t filter = FIXED; filter <= FLOAT; filter += FLOAT - FIXED) {
+        joint_call(filter, &joint);
+        has_lines(3, numbers, "an empty period belongs to the half that has it");
+        expect(memcmp(lent[ROWS], rows, sizeof rows) == 0, "and has a row of that half");
+        expect(memcmp(lent[EXCITATION], residual, 5) == 0, "the excitation beside an empty period");
+        expect(six(lent[SUMMARY], 8000, 3, 5, 3, 1, 1), "the summary with an empty period");
+        past(EXCITATION, 5);
+        empty_head_samples(filter);
+    }
+    untouched_report(SIMPLE, 3 * DIPHONE_REPORT_LINE_BYTES - 1, DIPHONE_SHORT_BUFFER, "no line for it");
 }
 
 /* ---- refused calls */
@@ -545,6 +698,8 @@ int main(void)
     no_join();
     four_marks();
     g721();
+    empty_head();
+    joints();
     from_the_heap();
     unfit_voices();
     unfit_sheets();

@@ -65,6 +65,27 @@ static inline void entry(const char *name, uint8_t start, uint8_t first, uint8_t
 
 static const uint8_t residual[5] = {0xFE, 0xEF, 0xFF, 0x7E, 0x6F};
 
+/* A file's magic, back end and header: rate 8000, coeff_min 0, coeff_range by its bits. */
+static inline void begin(uint32_t frames, uint32_t order, uint32_t range, uint32_t codec)
+{
+    length = 0;
+    sections = 0;
+    bytes("FLRSDAT\x01", 8);
+    section("voice.backend", 9);
+    bytes(" diphone\n", 9);
+    section("sts.header", 40);
+    u32(frames);
+    u32(order);
+    u32(8000);
+    u32(0);
+    u32(range);
+    u32(codec);
+    u32(0);
+    u32(0x7FC12345); /* a NaN, kept as stored */
+    u32(0);
+    u32(1);
+}
+
 /* Two frames, rate 8000, the scales 0, offsets 0, 2, 5; the entry pau-aa alone, another behind it that
  * comes first in order, or more behind it that come after. The bytes of the rows count up from 1.
  * Returns where the entries begin. */
@@ -72,22 +93,7 @@ static inline size_t example(uint32_t codec, uint32_t order, uint32_t count)
 {
     size_t entries;
 
-    length = 0;
-    sections = 0;
-    bytes("FLRSDAT\x01", 8);
-    section("voice.backend", 9);
-    bytes(" diphone\n", 9);
-    section("sts.header", 40);
-    u32(2);
-    u32(order);
-    u32(8000);
-    u32(0);
-    u32(0);
-    u32(codec);
-    u32(0);
-    u32(0x7FC12345); /* a NaN, kept as stored */
-    u32(0);
-    u32(1);
+    begin(2, order, 0, codec);
     section("sts.lpc", 4 * order);
     for (uint8_t i = 1; i <= 4 * order; i += 1)
         bytes(&i, 1);

@@ -154,7 +154,7 @@ def samples_of(done):
     return struct.unpack(f"<{len(raw) // 2}h", raw)
 
 
-# ---- the report and the ends, by document 01
+# ---- the report and the ends, by documents 01 and 02
 
 
 def as_f32(number):
@@ -177,20 +177,30 @@ def modified_ends(rate, segments):
     return [samples_at(rate, time) for a, b in zip(times, times[1:]) for time in (a, as_f32(as_f32(a + b) / 2))]
 
 
+def units_up_to(ends, sizes):
+    """The unit, from 0, that takes the mark of each period: unit by unit, marks up to the target end are taken."""
+    units, unit = [], 0
+    for mark in itertools.accumulate(sizes):
+        while mark > ends[unit]:
+            unit += 1
+        units.append(unit)
+    return units
+
+
+def units_of(halves):
+    """The same in the simple join, for halves that are lists of sizes: each takes the marks of its own periods."""
+    return [unit for unit, half in enumerate(halves) for _ in half]
+
+
 def simple_ends(halves):
-    """The same for halves that are lists of sizes, in the simple join."""
+    """Where each half ends in the simple join."""
     return list(itertools.accumulate(map(sum, halves)))
 
 
-def report_of(sizes, ends):
-    """Pair, half, first sample and size of each period: unit by unit, marks up to the target end are taken."""
-    lines, unit, first = [], 0, 0
-    for size in sizes:
-        while first + size > ends[unit]:
-            unit += 1
-        lines.append((unit // 2 + 1, unit % 2 + 1, first, size))
-        first += size
-    return lines
+def report_of(sizes, units):
+    """Pair, half, first sample and size of each period, by the unit that takes its mark."""
+    firsts = itertools.accumulate(sizes, initial=0)
+    return [(unit // 2 + 1, unit % 2 + 1, first, size) for unit, first, size in zip(units, firsts, sizes)]
 
 
 def report_text(report, segments):
@@ -218,9 +228,9 @@ HALVES = {
 }
 
 
-def voice_of_halves(rate):
+def voice_of_halves(rate, pairs=HALVES):
     sizes, entries = [], []
-    for (left, right), (first, second) in HALVES.items():
+    for (left, right), (first, second) in pairs.items():
         entries.append((left + b"-" + right, len(sizes), len(first), len(second)))
         sizes += first + second
     return voice_file(Header(rate=rate), [[]] * len(sizes), [bytes(size) for size in sizes], entries)
@@ -236,8 +246,25 @@ def random_segments(draw, most):
     return [Segment(draw.choice([b"a", b"b"]), random_time(draw, most)) for _ in range(draw.randrange(2, 9))]
 
 
+# Halves of one pair or two, with periods of no sample at the head of a unit; then the pair and half of each period, as
+# two digits, and the sample where each phone ends.
+EMPTY_HEADS = {
+    "one": ([[2], [0, 3]], [11, 12, 12], [2, 5]),
+    "a run": ([[2], [0, 0, 0, 3]], [11, 12, 12, 12, 12], [2, 5]),
+    "a run over a joint of two pairs": ([[2], [3, 0], [0, 0, 4], [1]], [11, 12, 12, 21, 21, 21, 22], [2, 9, 10]),
+    "at every head": ([[0, 2], [0, 3], [0, 4], [0, 1]], [11, 11, 12, 12, 21, 21, 22, 22], [2, 9, 10]),
+    "whole units": ([[2], [0, 0], [0], [0, 3]], [11, 12, 12, 21, 22, 22], [2, 2, 5]),
+    "after a unit without periods": ([[2], [], [0, 4], []], [11, 21, 21], [2, 6, 6]),
+    "after a pair without periods": ([[], [], [0], [0, 4]], [21, 22, 22], [0, 0, 4]),
+    "a first unit without periods": ([[], [0, 2], [3], []], [12, 12, 21], [0, 5, 5]),
+    "a first unit of no sample": ([[0, 0], [0, 2], [], [0]], [11, 11, 12, 12, 22], [0, 2, 2]),
+    "the last": ([[2], [3], [0], [0]], [11, 12, 21, 22], [2, 5, 5]),
+    "all": ([[0], [0], [0], [0]], [11, 12, 21, 22], [0, 0, 0]),
+}
+
+
 class Report(InFolder):
-    """--report and --ends, held to document 01 by the sizes that the player prints."""
+    """--report and --ends, held to documents 01 and 02 by the sizes that the player prints."""
 
     def check(self, voice, call, *words, halves=None):
         """Compares both tables of a call. Returns how many periods it has, or None if it is refused."""
@@ -248,8 +275,13 @@ class Report(InFolder):
             return None
         rows = [line.split(b" ", 2) for line in text.splitlines()]
         rate, segments = int(rows[0][0]), read_sheet(call.read_bytes())[0]
-        ends = modified_ends(rate, segments) if halves is None else simple_ends(halves)
-        report = report_of([int(row[1]) for row in rows[1:]], ends)
+        sizes = [int(row[1]) for row in rows[1:]]
+        if halves is None:
+            units = units_up_to(modified_ends(rate, segments), sizes)
+        else:
+            units, stored = units_of(halves), sum(halves, [])
+            self.assertEqual(sizes, stored if len(stored) > 1 else [])
+        report = report_of(sizes, units)
         self.same(run(voice, call, "--report", *words), (0, report_text(report, segments), message))
         self.same(run(voice, call, "--ends", *words), (0, ends_text(report, segments, rate), message))
         return len(report)
@@ -278,16 +310,46 @@ class Report(InFolder):
         self.assertEqual(ends[-4:], b"9 pau 8960 8377".split())
 
     def test_simple_join(self):
-        """With empty halves, and with periods of no sample at the head of a unit."""
+        """With empty halves, and with periods of no sample at the head of a unit. These move no end of a phone."""
         draw = random.Random(2)
         voice = self.file("halves.flv", voice_of_halves(8000))
-        periods = 0
+        periods = heads = 0
         for _ in range(40):
             segments = random_segments(draw, 0.01)
             halves = [half for a, b in zip(segments, segments[1:]) for half in HALVES[a.name, b.name]]
             call = self.file("call.sht", sheet(segments))
             periods += self.check(voice, call, "--join", "simple", halves=halves)
+            sizes, units = sum(halves, []), units_of(halves)
+            others = units_up_to(simple_ends(halves), sizes)  # the first that ends there, not the maker
+            heads += sum(other < unit for other, unit in zip(others, units))
+            self.assertEqual(*(ends_text(report_of(sizes, takers), segments, 8000) for takers in (units, others)))
         self.assertGreater(periods, 200)
+        self.assertGreater(heads, 60)
+
+    def test_empty_heads(self):
+        """In the simple join a period of no sample at the head of a unit is that unit's own. Pairs never fall."""
+        for what, (halves, units, reached) in EMPTY_HEADS.items():
+            names = [b"a", b"b", b"c"][: len(halves) // 2 + 1]
+            pairs = dict(zip(zip(names, names[1:]), zip(halves[::2], halves[1::2])))
+            voice = self.file("heads.flv", voice_of_halves(8000, pairs))
+            call = self.file("heads.sht", sheet([Segment(name) for name in names]))
+            lines, ends = (run(voice, call, "--join=simple", word)[1].splitlines() for word in ("--report", "--ends"))
+            found = [int(b"".join(line.split()[1:3])) for line in lines]
+            self.assertEqual(found, units, what)
+            self.assertEqual(found, sorted(found), what)
+            self.assertEqual([int(line.split()[3]) for line in ends], reached, what)
+            self.assertEqual(self.check(voice, call, "--join=simple", halves=halves), len(units), what)
+
+    def test_empty_head_of_the_example(self):
+        """Document 01's example with a period of no sample at the head of its second half: lines, ends, samples."""
+        residuals, entry = [b"\xfe\xef", b"", b"\xff\x7e\x6f"], (b"pau-aa", 0, 1, 2)
+        voice = self.file("head.flv", voice_file(Header(order=1), [[10], [20], [30]], residuals, [entry]))
+        for words, text in [
+            (("--report",), b"1 1 1 0 2 pau aa\n2 1 2 2 0 pau aa\n3 1 2 2 3 pau aa\n"),
+            (("--ends",), b"1 pau 0 2\n2 aa 0 5\n"),
+            ((), b"8000 3 5\n1 2 8 132\n2 0\n3 3 0 -8 -132\n"),
+        ]:
+            self.assertEqual(run(voice, EXAMPLE[1], "--join=simple", *words), (0, text, ""))
 
     def test_modified_join(self):
         """Ends that rise and fall, so that some units take no period."""

@@ -40,7 +40,7 @@ class Report(programs.Cases, unittest.TestCase):
     def test_none(self):
         for what, data in programs.none():
             self.assertEqual(self.run_on(EXAMPLE[0], data), "", what)
-        self.assertEqual(self.run_on(voice([0, 0]), EXAMPLE[1]), "1 1 1 0 0\n2 1 1 0 0\n")
+        self.assertEqual(self.run_on(voice([0, 0]), EXAMPLE[1]), "1 1 1 0 0\n2 1 2 0 0\n")
 
     def test_pairs(self):
         """Several pairs, of three periods in the first half and two in the second."""
@@ -56,6 +56,27 @@ class Report(programs.Cases, unittest.TestCase):
         for halves, half in (((0, 2), 2), ((2, 0), 1)):
             lines = self.lines_on(voice([3, 4], halves=halves), pairs(2))
             self.assertEqual(lines, [(1, 1, half, 0, 3), (2, 1, half, 3, 4), (3, 2, half, 7, 3), (4, 2, half, 10, 4)])
+
+    def test_empty_heads(self):
+        """A period of no sample at the head of a unit is that unit's own."""
+        lines = "1 1 1 0 2\n2 1 2 2 0\n3 1 2 2 3\n"
+        self.assertEqual(self.run_on(voice([2, 0, 3], halves=(1, 2), order=1), EXAMPLE[1]), lines)
+        lines = "1 1 1 0 0\n2 1 1 0 2\n3 1 2 2 0\n4 1 2 2 0\n5 2 1 2 0\n6 2 1 2 2\n7 2 2 4 0\n8 2 2 4 0\n"
+        self.assertEqual(self.run_on(voice([0, 2, 0, 0], halves=(2, 2)), pairs(2)), lines)
+        for sizes, halves in [
+            ([2, 0, 3], (1, 2)),
+            ([2, 0, 0, 0, 3], (1, 4)),  # a run
+            ([0, 2, 0, 3], (2, 2)),
+            ([0, 0, 3], (2, 1)),  # a whole unit
+            ([2, 0, 0], (1, 2)),
+            ([0, 3], (0, 2)),  # after a unit without periods
+            ([0, 3], (2, 0)),
+            ([0, 0, 0], (1, 2)),
+        ]:
+            flv, what = voice(sizes, halves=halves), (sizes, halves)
+            units = [(pair, half) for pair in (1, 2, 3) for half in [1] * halves[0] + [2] * halves[1]]
+            self.assertEqual([line[1:3] for line in self.lines_on(flv, pairs(3))], units, what)
+            self.assertEqual(self.spoken(what, flv, pairs(3))[1:], (3 * len(sizes), 3 * sum(sizes)), what)
 
     def test_many_pairs(self):
         """As many lines as there is room for."""

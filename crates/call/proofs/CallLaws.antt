@@ -38,14 +38,14 @@ use Rattle.lpc.proofs.FilterLaws.{by-append}
 use Rattle.call.specs.declared.JoinType.{JoinType}
 use Rattle.call.specs.declared.JoinType.the-variants.{None, Simple, ModifiedLpc}
 use Rattle.call.specs.declared.Settings.{Settings}
-use Rattle.call.specs.Call.{Plan, emptyPlan, simplePlan, modifiedPlan, planBy, planOf, periodsTaken, periodsOf}
+use Rattle.call.specs.Call.{Plan, emptyPlan, simplePlan, modifiedPlan, planBy, planOf, isSimple, periodsTaken, periodsOf}
 
 -- ---- what a call fills, cut up again, is the periods taken
 
 abbrev pub partOf : Period → Part
 partOf p = record { row = p .row; bytes = p .bytes }
 
-cut-filled : (order : ℕ) (ps : List Period) → Sized order ps → cut order (sizesOf ps) (rowsOf ps) (excitationOf ps) ≡ map partOf ps
+pub cut-filled : (order : ℕ) (ps : List Period) → Sized order ps → cut order (sizesOf ps) (rowsOf ps) (excitationOf ps) ≡ map partOf ps
 unfolding cut sizesOf rowsOf excitationOf flat
 cut-filled order [] s = refl
 cut-filled order (p ∷ ps) (cons (l, m) s) =
@@ -54,17 +54,20 @@ cut-filled order (p ∷ ps) (cons (l, m) s) =
     rw (take-at (p .row) rows order l, drop-at (p .row) rows order l, take-at (p .bytes) bytes (p .size) m, drop-at (p .bytes) bytes (p .size) m)
     (ap (λ (q : List Part). partOf p ∷ q) (cut-filled order ps s))
 
-pub taken-total : (v : Voice) (s : Sheet) (o : Settings) → total (sizesOf (periodsTaken v s o)) ≡ length (excitationOf (periodsTaken v s o))
+pub periods-sized : (v : Voice) (s : Sheet) (o : Settings) → Sized (v .header .order) (periodsTaken v s o)
 unfolding periodsTaken
-taken-total v s o = sizes-total (v .header .order) (periodsTaken v s o) (taken-sized v (planOf v s o .units) (planOf v s o .marks))
+periods-sized v s o = taken-sized (isSimple (o .join)) v (planOf v s o .units) (planOf v s o .marks)
+
+pub taken-total : (v : Voice) (s : Sheet) (o : Settings) → total (sizesOf (periodsTaken v s o)) ≡ length (excitationOf (periodsTaken v s o))
+taken-total v s o = sizes-total (v .header .order) (periodsTaken v s o) (periods-sized v s o)
 
 -- the samples of taken periods
 unfoldable pub soundOf : ResynthType → Float → Float → List Period → List (List ℕ)
 soundOf t least range ps = periodsBy t least range (map partOf ps)
 
 pub sound-is : (v : Voice) (s : Sheet) (o : Settings) → periodsOf v s o ≡ soundOf (o .filter) (v .header .«coeff_min») (v .header .«coeff_range») (periodsTaken v s o)
-unfolding periodsOf periodsTaken soundOf
-sound-is v s o = ap (periodsBy (o .filter) (v .header .«coeff_min») (v .header .«coeff_range»)) (cut-filled (v .header .order) (periodsTaken v s o) (taken-sized v (planOf v s o .units) (planOf v s o .marks)))
+unfolding periodsOf soundOf
+sound-is v s o = ap (periodsBy (o .filter) (v .header .«coeff_min») (v .header .«coeff_range»)) (cut-filled (v .header .order) (periodsTaken v s o) (periods-sized v s o))
 
 sound-heads : (t : ResynthType) (least range : Float) (ps qs : List Period) → Heads ps qs → Heads (soundOf t least range ps) (soundOf t least range qs)
 unfolding soundOf
@@ -125,8 +128,8 @@ module _ (v w : Voice) (x : Extends w v) (a : Opens v) (b : Opens w) (s : Sheet)
   pub taken-periods-same : periodsTaken w s o ≡ periodsTaken v s o
   unfolding periodsTaken
   taken-periods-same =
-      ap (λ (p : Plan). taken w (p .units) (p .marks)) plan-same
-      ∙ taken-same v w n same-periods (a .someFrames) (planOf v s o .units) (planOf v s o .marks) plan-within
+      ap (λ (p : Plan). taken (isSimple (o .join)) w (p .units) (p .marks)) plan-same
+      ∙ taken-same v w n same-periods (a .someFrames) (isSimple (o .join)) (planOf v s o .units) (planOf v s o .marks) plan-within
 
 -- ---- a longer sheet, on the same voice
 
@@ -175,7 +178,7 @@ module _ (v : Voice) where
         let p = plan-ahead e in
         let q = p .units .whole in
         let m = p .marks .whole in
-        rw (q, m) (taken-append v (planOf v s o .units) (p .units .more) (planOf v s o .marks) (p .marks .more))
+        rw (q, m) (taken-append (isSimple (o .join)) v (planOf v s o .units) (p .units .more) (planOf v s o .marks) (p .marks .more))
 
 -- ---- both
 

@@ -16,14 +16,14 @@ use Rattle.units.specs.Units.{unitsOf}
 use Rattle.marks.specs.PitchMarks.{mostMarks}
 use Rattle.marks.specs.NaturalMarks.{naturalMarks}
 use Rattle.marks.proofs.CountLaws.{marks-most, refusal-most}
-use Rattle.excitation.specs.Taken.{Period, taken, sizesOf, excitationOf, total}
+use Rattle.excitation.specs.Taken.{Period, sizesOf, excitationOf, total}
 use Rattle.excitation.proofs.CountLaws.{taken-most}
-use Rattle.excitation.proofs.SizedLaws.{sizes-total, taken-sized, taken-sizes}
+use Rattle.excitation.proofs.SizedLaws.{taken-sizes}
 use Rattle.call.specs.declared.JoinType.{JoinType}
 use Rattle.call.specs.declared.JoinType.the-variants.{None, Simple, ModifiedLpc}
 use Rattle.call.specs.declared.Settings.{Settings}
-use Rattle.call.specs.Call.{simplePlan, modifiedPlan, planBy, planOf, periodsTaken}
-use Rattle.call.proofs.CallLaws.{twoSegments}
+use Rattle.call.specs.Call.{simplePlan, modifiedPlan, planBy, planOf, isSimple, periodsTaken}
+use Rattle.call.proofs.CallLaws.{twoSegments, taken-total}
 use Rattle.call.proofs.FilledLaws.{plan-low}
 
 -- ---- marks
@@ -53,17 +53,16 @@ module _ (v : Voice) (s : Sheet) (o : Settings) (e : planOf v s o .refusal ≡ n
   pub periods-few : length (periodsTaken v s o) ≤ 65536
   unfolding periodsTaken
   periods-few =
-      let a = taken-most v (planOf v s o .units) (planOf v s o .marks) in
+      let a = taken-most (isSimple (o .join)) v (planOf v s o .units) (planOf v s o .marks) in
       let b = plan-most v s o e in
       omega arith
 
   pub samples-few : length (excitationOf (periodsTaken v s o)) < 2 ^ 64
   unfolding periodsTaken sizesOf
   samples-few =
-      let us = planOf v s o .units in
-      let ms = planOf v s o .marks in
-      let t = sizes-total (v .header .order) (taken v us ms) (taken-sized v us ms) in
-      let b = total-most (sizesOf (taken v us ms)) (taken-sizes v us ms (plan-low v s o e)) in
-      let n = length-map (taken v us ms) (λ (p : Period). p .size) in
+      let ps = periodsTaken v s o in
+      let t = taken-total v s o in
+      let b = total-most (sizesOf ps) (taken-sizes (isSimple (o .join)) v (planOf v s o .units) (planOf v s o .marks) (plan-low v s o e)) in
+      let n = length-map ps (λ (p : Period). p .size) in
       let f = periods-few in
       omega arith

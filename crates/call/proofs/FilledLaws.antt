@@ -23,15 +23,15 @@ use Rattle.marks.specs.PitchMarks.{mostMarks}
 use Rattle.marks.specs.NaturalMarks.{naturalMarks}
 use Rattle.marks.proofs.LimitLaws.{Low, refusal-low, marks-low}
 use Rattle.excitation.specs.Taken.{Period, sizesOf, rowsOf, excitationOf}
-use Rattle.excitation.proofs.SizedLaws.{taken-sized, taken-sizes, taken-rows, rows-length}
+use Rattle.excitation.proofs.SizedLaws.{taken-sizes, taken-rows, rows-length}
 use Rattle.lpc.proofs.FilterLaws as filter
 use Rattle.call.specs.declared.JoinType.{JoinType}
 use Rattle.call.specs.declared.JoinType.the-variants.{None, Simple, ModifiedLpc}
 use Rattle.call.specs.declared.Settings.{Settings}
-use Rattle.call.specs.Call.{simplePlan, modifiedPlan, planBy, planOf, periodsTaken, partsOf, periodsOf}
+use Rattle.call.specs.Call.{simplePlan, modifiedPlan, planBy, planOf, isSimple, periodsTaken, partsOf, periodsOf}
 use Rattle.call.specs.Buffers.{Buffers, filled, checkRefusal, callRefusal, summaryOf}
 use Rattle.call.specs.Machine.{bytesOfPeriods}
-use Rattle.call.proofs.CallLaws.{twoSegments}
+use Rattle.call.proofs.CallLaws.{twoSegments, periods-sized}
 
 -- ---- the marks
 
@@ -66,19 +66,18 @@ module _ (v : Voice) (s : Sheet) (o : Settings) where
 
   sizes-back : planOf v s o .refusal ≡ none → elements 4 (flat (bytesOf 4) (sizesOf ps)) ≡ sizesOf ps
   unfolding sizesOf periodsTaken
-  sizes-back e = elements-flat 4 (sizesOf ps) (omega arith) (taken-sizes v (planOf v s o .units) (planOf v s o .marks) (plan-low v s o e))
+  sizes-back e = elements-flat 4 (sizesOf ps) (omega arith) (taken-sizes (isSimple (o .join)) v (planOf v s o .units) (planOf v s o .marks) (plan-low v s o e))
 
   rows-back : Bytes (v .lpc) → elements 2 (flat (bytesOf 2) (rowsOf ps)) ≡ rowsOf ps
   unfolding rowsOf periodsTaken
-  rows-back h = elements-flat 2 (rowsOf ps) (omega arith) (taken-rows v (planOf v s o .units) (planOf v s o .marks) h)
+  rows-back h = elements-flat 2 (rowsOf ps) (omega arith) (taken-rows (isSimple (o .join)) v (planOf v s o .units) (planOf v s o .marks) h)
 
   sizes-count : length (sizesOf ps) ≡ length ps
   unfolding sizesOf
   sizes-count = length-map ps (λ (p : Period). p .size)
 
   rows-count : length (rowsOf ps) ≡ length ps * v .header .order
-  unfolding periodsTaken
-  rows-count = rows-length (v .header .order) ps (taken-sized v (planOf v s o .units) (planOf v s o .marks)) ∙ ap (λ (n : ℕ). n * v .header .order) sizes-count
+  rows-count = rows-length (v .header .order) ps (periods-sized v s o) ∙ ap (λ (n : ℕ). n * v .header .order) sizes-count
 
   pub sizes-front : planOf v s o .refusal ≡ none → (d : List ℕ) → elements 4 (take (4 * summaryOf v s o .periods) (over (filled v s o .sizes) d)) ≡ sizesOf ps
   unfolding summaryOf filled

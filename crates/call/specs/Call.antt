@@ -1,5 +1,5 @@
 -- Document 01: the call. What it gives is defined for every voice and sheet; what refuses it stands beside that.
-use mathlib.Core.Bool.{true, false}
+use mathlib.Core.Bool.{Bool, true, false}
 use mathlib.Core.List.{List, []}
 use mathlib.Core.Option.{Option, none}
 use Prim.Native.Nat.{ℕ}
@@ -58,8 +58,14 @@ planOf v s o =
 
 -- ---- the periods taken, and their samples
 
+-- whether the units of a join end where they naturally do
+abbrev pub isSimple : JoinType → Bool
+isSimple None = false
+isSimple Simple = true
+isSimple ModifiedLpc = false
+
 unfoldable pub periodsTaken : Voice → Sheet → Settings → List Period
-periodsTaken v s o = taken v (planOf v s o .units) (planOf v s o .marks)
+periodsTaken v s o = taken (isSimple (o .join)) v (planOf v s o .units) (planOf v s o .marks)
 
 -- what the filter is lent, cut into periods
 abbrev pub partsOf : Voice → List Period → List Part

@@ -1,7 +1,7 @@
 -- What the buffers of a call need.
 use mathlib.Core.Path.{_≡_, refl, sym, ap, _∙_}
 use mathlib.Core.Bool.{Bool, true, false}
-use mathlib.Core.List.{List, [], _∷_}
+use mathlib.Core.List.{List}
 use mathlib.Core.Option.{none}
 use Prim.Native.Nat.{ℕ, _*_, _≤_, _<_}
 use native.Mathlib.Nat.{mul-zero, mul-comm}
@@ -24,16 +24,17 @@ use Rattle.units.specs.declared.Unit.{Unit}
 use Rattle.units.specs.Selecting.{folded}
 use Rattle.units.specs.Units.{greatestEnd, unitsOf}
 use Rattle.units.proofs.UnitLaws.{units-some}
-use Rattle.marks.specs.NaturalMarks.{naturalUnits}
 use Rattle.marks.specs.Rising.{Rising}
 use Rattle.marks.specs.Checking.{lastOf, upTo}
 use Rattle.marks.proofs.RiseLaws.{natural-rises, marks-rise}
 use Rattle.excitation.specs.Taken.{taken, rowsOf, excitationOf}
+use Rattle.excitation.proofs.ShareLaws.{TakesFront, marks-taken}
+use Rattle.excitation.proofs.OwnLaws.{own-taken}
 use Rattle.excitation.proofs.CountLaws.{taken-few, taken-count, taken-last, taken-row-values}
 use Rattle.call.specs.declared.JoinType.{JoinType}
 use Rattle.call.specs.declared.JoinType.the-variants.{None, Simple, ModifiedLpc}
 use Rattle.call.specs.declared.Settings.{Settings}
-use Rattle.call.specs.Call.{Plan, simplePlan, modifiedPlan, planBy, planOf, periodsTaken}
+use Rattle.call.specs.Call.{Plan, simplePlan, modifiedPlan, planBy, planOf, isSimple, periodsTaken}
 use Rattle.call.specs.Buffers.{needOf}
 use Rattle.call.proofs.CallLaws.{twoSegments}
 use Rattle.voice.specs.Periods.{decodeRoom}
@@ -79,62 +80,58 @@ rate-good : (file : List ℕ) → openingRefusal file ≡ none → (1 ≤ voiceO
 unfolding goodNumbers goodHeader voiceOf voiceAt placesOf
 rate-good file e = let n = every-at _ (passed file e .header) 1 in (leb-true 1 _ (every-at _ n 2), leb-true _ 48000 (every-at _ n 3))
 
--- ---- marks have units that take them
+-- ---- the marks taken are those up to the greatest target end
 
-natural-some : (v : Voice) (us : List Unit) → 0 < length us → 0 < length (naturalUnits v 0 us)
-unfolding naturalUnits
-natural-some v [] h = absurd (omega arith)
-natural-some v (u ∷ us) h = omega arith
-
-by-some : (j : JoinType) (v : Voice) (fold : Bool) (ss : List SegmentRead) (ts : List Target) → 2 ≤ length ss
-    → let p = planBy j v (folded fold ss) ts in 0 < length (p .marks) → 0 < length (p .units)
+by-front : (j : JoinType) (v : Voice) (fold : Bool) (ss : List SegmentRead) (ts : List Target) → 2 ≤ length ss
+    → let p = planBy j v (folded fold ss) ts in 2 ≤ length (p .marks) → TakesFront (isSimple j) (p .units) (p .marks)
 unfolding planBy simplePlan modifiedPlan
-by-some None v fold ss ts h m = absurd (omega arith)
-by-some Simple v fold ss ts h m = natural-some v (unitsOf v (folded fold ss)) (units-some v fold ss h)
-by-some ModifiedLpc v fold ss ts h m = units-some v fold ss h
+by-front None v fold ss ts h m = absurd (omega arith)
+by-front Simple v fold ss ts h m = own-taken v (unitsOf v (folded fold ss)) m
+by-front ModifiedLpc v fold ss ts h m = marks-taken _ _ m (units-some v fold ss h)
 
-plan-some : (v : Voice) (s : Sheet) (o : Settings) → 0 < length (planOf v s o .marks) → 0 < length (planOf v s o .units)
+plan-front : (v : Voice) (s : Sheet) (o : Settings) → 2 ≤ length (planOf v s o .marks) → TakesFront (isSimple (o .join)) (planOf v s o .units) (planOf v s o .marks)
 unfolding planOf
-plan-some v s o m = by (ltb (length (s .segments)) 2) refl m
+plan-front v s o m = by (ltb (length (s .segments)) 2) refl m
   where
     joined : Plan
     joined = planBy (o .join) v (folded (o .fold) (s .segments)) (s .targets)
 
-    by : (t : Bool) → ltb (length (s .segments)) 2 ≡ t → 0 < length (twoSegments t joined .marks) → 0 < length (twoSegments t joined .units)
+    by : (t : Bool) → ltb (length (s .segments)) 2 ≡ t → 2 ≤ length (twoSegments t joined .marks) → TakesFront (isSimple (o .join)) (twoSegments t joined .units) (twoSegments t joined .marks)
     by true e m = absurd (omega arith)
-    by false e m = by-some (o .join) v (o .fold) (s .segments) (s .targets) (ltb-false (length (s .segments)) 2 e) m
+    by false e m = by-front (o .join) v (o .fold) (s .segments) (s .targets) (ltb-false (length (s .segments)) 2 e) m
 
 -- ---- what the call fills
 
-module _ (v : Voice) (us : List Unit) (ms : List ℕ) (some : 0 < length ms → 0 < length us) where
+module _ (natural : Bool) (v : Voice) (us : List Unit) (ms : List ℕ) (takes : 2 ≤ length ms → TakesFront natural us ms) where
   abbrev front : List ℕ
   front = upTo (greatestEnd us) ms
 
-  periods-are : pick (ltb (length ms) 2) 0 (length front) ≡ length (taken v us ms)
+  periods-are : pick (ltb (length ms) 2) 0 (length front) ≡ length (taken natural v us ms)
   periods-are =
       by-order (length ms) 2
-      (λ h. rw (lt-ltb (length ms) 2 h) (sym (taken-few v us ms h .0)))
-      (λ h. rw (le-ltb (length ms) 2 h) (sym (taken-count v us ms h (some (omega arith)))))
+      (λ h. rw (lt-ltb (length ms) 2 h) (sym (taken-few natural v us ms h .0)))
+      (λ h. rw (le-ltb (length ms) 2 h) (sym (taken-count natural v us ms (takes h))))
 
-  excitation-is : Rising 0 ms → pick (ltb (length ms) 2) 0 (lastOf 0 front) ≡ length (excitationOf (taken v us ms))
+  excitation-is : Rising 0 ms → pick (ltb (length ms) 2) 0 (lastOf 0 front) ≡ length (excitationOf (taken natural v us ms))
   excitation-is r =
       by-order (length ms) 2
-      (λ h. rw (lt-ltb (length ms) 2 h) (sym (taken-few v us ms h .1)))
-      (λ h. rw (le-ltb (length ms) 2 h) (sym (taken-last v us ms h (some (omega arith)) r)))
+      (λ h. rw (lt-ltb (length ms) 2 h) (sym (taken-few natural v us ms h .1)))
+      (λ h. rw (le-ltb (length ms) 2 h) (sym (taken-last natural v us ms (takes h) r)))
 
-  rows-are : v .header .order * length (taken v us ms) ≡ length (rowsOf (taken v us ms))
-  rows-are = mul-comm (v .header .order) (length (taken v us ms)) ∙ sym (taken-row-values v us ms)
+  rows-are : v .header .order * length (taken natural v us ms) ≡ length (rowsOf (taken natural v us ms))
+  rows-are = mul-comm (v .header .order) (length (taken natural v us ms)) ∙ sym (taken-row-values natural v us ms)
 
 pub need-filled : (file : List ℕ) → openingRefusal file ≡ none → (s : Sheet) (o : Settings) (c : Counts)
     → let p = planOf (voiceOf file) s o in Counted (p .marks) (upTo (greatestEnd (p .units)) (p .marks)) c → needBy (voiceOf file) c ≡ needOf (voiceOf file) s o
 unfolding needBy needOf periodsTaken
 need-filled file e s o c k =
     let v = voiceOf file in
+    let natural = isSimple (o .join) in
     let us = planOf v s o .units in
     let ms = planOf v s o .marks in
     let g = rate-good file e in
-    let some = plan-some v s o in
+    let front = plan-front v s o in
     let m = k .marks in
     let t = k .taken in
     let l = k .last in
-    rw (m, t, l, periods-are v us ms some, excitation-is v us ms some (plan-rises v s o (g .0) (g .1)), rows-are v us ms some)
+    rw (m, t, l, periods-are natural v us ms front, excitation-is natural v us ms front (plan-rises v s o (g .0) (g .1)), rows-are natural v us ms front)

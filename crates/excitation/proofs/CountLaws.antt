@@ -1,6 +1,6 @@
 -- How many periods a call takes, and how long their excitation is: known from the marks taken alone, which are those up to the greatest target end.
 use mathlib.Core.Path.{_≡_, refl, sym, ap, subst, _∙_}
-use mathlib.Core.Bool.{false}
+use mathlib.Core.Bool.{Bool, true, false}
 use mathlib.Core.List.{List, [], _∷_}
 use Prim.Native.Nat.{ℕ, suc, _+_, _*_, _≤_, _<_}
 use native.Mathlib.Omega.{arith}
@@ -15,12 +15,12 @@ use Rattle.units.specs.Units.{greatestEnd}
 use Rattle.marks.specs.NaturalMarks.{naturalMarks, naturalUnits}
 use Rattle.marks.specs.Checking.{lastOf, upTo}
 use Rattle.marks.specs.Rising.{Rising}
-use Rattle.marks.proofs.RiseLaws.{natural-rises}
 use Rattle.marks.proofs.UpToLaws.{natural-upTo}
 use Rattle.excitation.specs.Nearest.{paceOf}
-use Rattle.excitation.specs.Shares.{upToEnd, Share, shareOf, sharesFrom, shares, marksTaken, sizesFrom}
+use Rattle.excitation.specs.Shares.{shareCount, Share, shareOf, sharesFrom, shares, marksTaken, sizesFrom}
 use Rattle.excitation.specs.Taken.{Period, periodsOfShare, taken, sizesOf, rowsOf, excitationOf, total}
-use Rattle.excitation.proofs.ShareLaws.{take-upTo, front-rises, share-most, share-count, taken-none, taken-from, marks-taken, periods-sizes, sizes-by-marks}
+use Rattle.excitation.proofs.ShareLaws.{take-upTo, front-rises, share-most, share-count, taken-none, taken-from, TakesFront, periods-sizes, sizes-by-marks}
+use Rattle.excitation.proofs.OwnLaws.{own-taken}
 use Rattle.excitation.proofs.SizedLaws.{sizes-total, rows-length, share-sized, taken-sized}
 
 -- ---- of marks that do not fall
@@ -44,71 +44,64 @@ share-last v s r =
     let c = sizes-sum (s .mark) (s .marks) r in
     omega arith
 
-from-most : (v : Voice) (endBefore mark : ℕ) (us : List Unit) (ms : List ℕ) → length (flat (periodsOfShare v) (sharesFrom endBefore mark us ms)) ≤ length ms
+from-most : (natural : Bool) (v : Voice) (endBefore mark : ℕ) (us : List Unit) (ms : List ℕ) → length (flat (periodsOfShare v) (sharesFrom natural endBefore mark us ms)) ≤ length ms
 unfolding flat sharesFrom
-from-most v endBefore mark [] ms = omega arith
-from-most v endBefore mark (u ∷ us) ms =
-    let s = shareOf endBefore mark u ms in
-    let left = drop (upToEnd u ms) ms in
-    let a = length-append (periodsOfShare v s) (flat (periodsOfShare v) (sharesFrom (u .«target_end») (lastOf mark (s .marks)) us left)) in
-    let b = share-count v endBefore mark u ms in
-    let c = from-most v (u .«target_end») (lastOf mark (s .marks)) us left in
-    let d = length-drop (upToEnd u ms) ms in
-    let e = share-most u ms in
+from-most natural v endBefore mark [] ms = omega arith
+from-most natural v endBefore mark (u ∷ us) ms =
+    let s = shareOf natural endBefore mark u ms in
+    let left = drop (shareCount natural u ms) ms in
+    let a = length-append (periodsOfShare v s) (flat (periodsOfShare v) (sharesFrom natural (u .«target_end») (lastOf mark (s .marks)) us left)) in
+    let b = share-count natural v endBefore mark u ms in
+    let c = from-most natural v (u .«target_end») (lastOf mark (s .marks)) us left in
+    let d = length-drop (shareCount natural u ms) ms in
+    let e = share-most natural u ms in
     omega arith
 
 -- ---- by the marks taken
 
-module _ (v : Voice) (us : List Unit) (ms : List ℕ) where
-  taken-many : length (taken v us ms) ≡ length (marksTaken (shares us ms))
+module _ (natural : Bool) (v : Voice) (us : List Unit) (ms : List ℕ) where
+  taken-many : length (taken natural v us ms) ≡ length (marksTaken (shares natural us ms))
   unfolding sizesOf
-  taken-many = sym (length-map (taken v us ms) (λ (p : Period). p .size)) ∙ ap length (sizes-by-marks v us ms) ∙ sizes-many 0 (marksTaken (shares us ms))
+  taken-many =
+      sym (length-map (taken natural v us ms) (λ (p : Period). p .size))
+      ∙ ap length (sizes-by-marks natural v us ms)
+      ∙ sizes-many 0 (marksTaken (shares natural us ms))
 
-  taken-long : Rising 0 (marksTaken (shares us ms)) → length (excitationOf (taken v us ms)) ≡ lastOf 0 (marksTaken (shares us ms))
+  taken-long : Rising 0 (marksTaken (shares natural us ms)) → length (excitationOf (taken natural v us ms)) ≡ lastOf 0 (marksTaken (shares natural us ms))
   taken-long r =
-      let a = sizes-total (v .header .order) (taken v us ms) (taken-sized v us ms) in
-      let b = ap total (sizes-by-marks v us ms) in
-      let c = sizes-sum 0 (marksTaken (shares us ms)) r in
+      let a = sizes-total (v .header .order) (taken natural v us ms) (taken-sized natural v us ms) in
+      let b = ap total (sizes-by-marks natural v us ms) in
+      let c = sizes-sum 0 (marksTaken (shares natural us ms)) r in
       omega arith
 
-  pub taken-few : length ms < 2 → (length (taken v us ms) ≡ 0) × (length (excitationOf (taken v us ms)) ≡ 0)
+  pub taken-few : length ms < 2 → (length (taken natural v us ms) ≡ 0) × (length (excitationOf (taken natural v us ms)) ≡ 0)
   unfolding excitationOf flat
-  taken-few h = let e = taken-none us ms v h in (ap length e, ap (λ (ps : List Period). length (excitationOf ps)) e)
+  taken-few h = let e = taken-none natural us ms v h in (ap length e, ap (λ (ps : List Period). length (excitationOf ps)) e)
 
-  pub taken-count : 2 ≤ length ms → 0 < length us → length (taken v us ms) ≡ length (upTo (greatestEnd us) ms)
-  taken-count h some = taken-many ∙ ap length (marks-taken us ms h some)
+  module _ (front : TakesFront natural us ms) where
+    pub taken-count : length (taken natural v us ms) ≡ length (upTo (greatestEnd us) ms)
+    taken-count = taken-many ∙ ap length front
 
-  pub taken-last : 2 ≤ length ms → 0 < length us → Rising 0 ms → length (excitationOf (taken v us ms)) ≡ lastOf 0 (upTo (greatestEnd us) ms)
-  taken-last h some r =
-      let e = marks-taken us ms h some in
-      let f = upTo (greatestEnd us) ms in
-      taken-long (subst (Rising 0) (take-upTo (greatestEnd us) ms ∙ sym e) (front-rises (length f) 0 ms r)) ∙ ap (lastOf 0) e
+    pub taken-last : Rising 0 ms → length (excitationOf (taken natural v us ms)) ≡ lastOf 0 (upTo (greatestEnd us) ms)
+    taken-last r =
+        let f = upTo (greatestEnd us) ms in
+        taken-long (subst (Rising 0) (take-upTo (greatestEnd us) ms ∙ sym front) (front-rises (length f) 0 ms r)) ∙ ap (lastOf 0) front
 
   -- no more periods than there are marks
-  pub taken-most : length (taken v us ms) ≤ length ms
+  pub taken-most : length (taken natural v us ms) ≤ length ms
   taken-most =
       by-order (length ms) 2
       (λ l. let e = taken-few l .0 in omega arith)
-      (λ l. let e = ap length (taken-from us ms v l) in let k = from-most v 0 0 us ms in omega arith)
+      (λ l. let e = ap length (taken-from natural us ms v l) in let k = from-most natural v 0 0 us ms in omega arith)
 
-  pub taken-row-values : length (rowsOf (taken v us ms)) ≡ length (taken v us ms) * v .header .order
+  pub taken-row-values : length (rowsOf (taken natural v us ms)) ≡ length (taken natural v us ms) * v .header .order
   unfolding sizesOf
   taken-row-values =
-      rows-length (v .header .order) (taken v us ms) (taken-sized v us ms)
-      ∙ ap (λ (n : ℕ). n * v .header .order) (length-map (taken v us ms) (λ (p : Period). p .size))
+      rows-length (v .header .order) (taken natural v us ms) (taken-sized natural v us ms)
+      ∙ ap (λ (n : ℕ). n * v .header .order) (length-map (taken natural v us ms) (λ (p : Period). p .size))
 
 -- ---- the simple join: every mark is taken
 
-module _ (v : Voice) where
-  natural-some : (us : List Unit) → 2 ≤ length (naturalMarks v 0 us) → 0 < length (naturalUnits v 0 us)
-  unfolding naturalMarks naturalUnits
-  natural-some [] h = absurd (omega arith)
-  natural-some (u ∷ us) h = omega arith
-
-  module _ (us : List Unit) (two : 2 ≤ length (naturalMarks v 0 us)) where
-    pub natural-count : length (taken v (naturalUnits v 0 us) (naturalMarks v 0 us)) ≡ length (naturalMarks v 0 us)
-    natural-count = taken-count v (naturalUnits v 0 us) (naturalMarks v 0 us) two (natural-some us two) ∙ ap length (natural-upTo v 0 us)
-
-    pub natural-excitation : length (excitationOf (taken v (naturalUnits v 0 us) (naturalMarks v 0 us))) ≡ lastOf 0 (naturalMarks v 0 us)
-    natural-excitation =
-        taken-last v (naturalUnits v 0 us) (naturalMarks v 0 us) two (natural-some us two) (natural-rises v 0 us) ∙ ap (lastOf 0) (natural-upTo v 0 us)
+module _ (v : Voice) (us : List Unit) (two : 2 ≤ length (naturalMarks v 0 us)) where
+  pub natural-count : length (taken true v (naturalUnits v 0 us) (naturalMarks v 0 us)) ≡ length (naturalMarks v 0 us)
+  natural-count = taken-count true v (naturalUnits v 0 us) (naturalMarks v 0 us) (own-taken v us two) ∙ ap length (natural-upTo v 0 us)

@@ -1,5 +1,6 @@
 -- Laws about excitation's definitions.
 pub mod ShareLaws
+pub mod OwnLaws
 pub mod TakenLaws
 pub mod SizedLaws
 pub mod WindowLaws

@@ -8,23 +8,25 @@ use borrow.Author.Tests.{leb-true, leb-false, le-leb, lt-leb, lt-ltb, le-ltb}
 use lib.Dec.{leb, ltb}
 use lib.IntN.{pos}
 use lib.Ieee.{Float, fin}
-use lib.ListN.{length, take, drop, length-take}
+use lib.ListN.{length, take, drop, length-take, length-append}
+use lib.Seq.{length-take-le}
 use Rattle.base.specs.Buffers.{flat}
-use Rattle.base.proofs.BoundLaws.{Each, nil, cons}
+use Rattle.base.proofs.CaseLaws.{by-order}
 use Rattle.voice.specs.Voice.{Voice}
 use Rattle.units.specs.declared.Unit.{Unit}
 use Rattle.units.specs.Units.{greatestEnd}
+use Rattle.marks.specs.NaturalMarks.{periodCount}
 use Rattle.marks.specs.Checking.{lastOf, upTo}
 use Rattle.marks.specs.Rising.{Rising}
 use Rattle.marks.proofs.UpToLaws.{upTo-by, upTo-max}
 use Rattle.excitation.specs.Nearest.{paceOf, placeAfterSize}
-use Rattle.excitation.specs.Shares.{upToEnd, Share, shareOf, sharesFrom, shares, marksTaken, sizesFrom}
+use Rattle.excitation.specs.Shares.{upToEnd, ownPeriods, shareCount, Share, shareOf, sharesFrom, shares, marksTaken, sizesFrom}
 use Rattle.excitation.specs.Taken.{Period, periodOf, periodsOfMarks, periodsOfShare, taken, sizesOf}
 
 -- ---- the marks up to a place
 
 -- a mark and the front of those after it, by whether it is not above the place
-abbrev frontMark : Bool → ℕ → List ℕ → List ℕ
+abbrev pub frontMark : Bool → ℕ → List ℕ → List ℕ
 frontMark t m ms = elim t [ false ↦ [] | true ↦ m ∷ ms ]
 
 module _ (end : ℕ) where
@@ -37,24 +39,15 @@ module _ (end : ℕ) where
       by true e = ap (λ (l : List ℕ). m ∷ l) e
       by false e = refl
 
-  upTo-low : (ms : List ℕ) → Each (λ m. m ≤ end) (upTo end ms)
+  -- the mark after them, if there is one, is above it, and above every lower place
+  pub upTo-stops : (low : ℕ) → low ≤ end → (ms : List ℕ) → upTo low (drop (length (upTo end ms)) ms) ≡ []
   unfolding upTo
-  upTo-low [] = nil
-  upTo-low (m ∷ ms) = by (leb m end) refl (upTo-low ms)
+  upTo-stops low h [] = refl
+  upTo-stops low h (m ∷ ms) = by (leb m end) refl (upTo-stops low h ms)
     where
-      by : (t : Bool) → leb m end ≡ t → Each (λ m. m ≤ end) (upTo end ms) → Each (λ m. m ≤ end) (frontMark t m (upTo end ms))
-      by true e k = cons (leb-true m end e) k
-      by false e k = nil
-
-  -- the mark after them, if there is one, is not 0
-  upTo-stops : (ms : List ℕ) → upTo 0 (drop (length (upTo end ms)) ms) ≡ []
-  unfolding upTo
-  upTo-stops [] = refl
-  upTo-stops (m ∷ ms) = by (leb m end) refl (upTo-stops ms)
-    where
-      by : (t : Bool) → leb m end ≡ t → upTo 0 (drop (length (upTo end ms)) ms) ≡ [] → upTo 0 (drop (length (frontMark t m (upTo end ms))) (m ∷ ms)) ≡ []
+      by : (t : Bool) → leb m end ≡ t → upTo low (drop (length (upTo end ms)) ms) ≡ [] → upTo low (drop (length (frontMark t m (upTo end ms))) (m ∷ ms)) ≡ []
       by true e k = k
-      by false e k = let l = leb-false m end e in upTo-by 0 m ms false (lt-leb m 0 (omega arith))
+      by false e k = let l = leb-false m end e in upTo-by low m ms false (lt-leb m low (omega arith))
 
   -- and then those up to another place
   upTo-both : (other : ℕ) (ms : List ℕ) → upTo end ms ++ upTo other (drop (length (upTo end ms)) ms) ≡ upTo (max end other) ms
@@ -82,7 +75,7 @@ rest-rises zero mark ms r = r
 rest-rises (suc n) mark [] r = tt
 rest-rises (suc n) mark (m ∷ ms) r = rest-rises n m ms (r .1)
 
--- ---- the share of one unit
+-- ---- the share of one unit: the marks up to its target end
 
 module _ (u : Unit) where
   abbrev end : ℕ
@@ -100,16 +93,17 @@ module _ (u : Unit) where
   unfolding upToEnd
   end-takes m ms h = ap length (upTo-by end m ms true (le-leb m end h))
 
-  share-many : (ms : List ℕ) → length (take (upToEnd u ms) ms) ≡ upToEnd u ms
+  end-most : (ms : List ℕ) → upToEnd u ms ≤ length ms
   unfolding upToEnd
-  share-many ms = ap length (take-upTo end ms)
+  end-most ms = let a = ap length (take-upTo end ms) in let b = length-take (length (upTo end ms)) ms in omega arith
 
-  pub share-most : (ms : List ℕ) → upToEnd u ms ≤ length ms
-  share-most ms = let a = share-many ms in let b = length-take (upToEnd u ms) ms in omega arith
+-- ---- the same by the join
 
-  pub share-low : (ms : List ℕ) → Each (λ m. m ≤ end) (take (upToEnd u ms) ms)
-  unfolding upToEnd
-  share-low ms = let e = take-upTo end ms in rw e (upTo-low end ms)
+-- it takes no mark that is not there
+pub share-most : (natural : Bool) (u : Unit) (ms : List ℕ) → shareCount natural u ms ≤ length ms
+unfolding shareCount ownPeriods
+share-most true u ms = omega arith
+share-most false u ms = end-most u ms
 
 periods-many : (v : Voice) (u : Unit) (pace place : Float) (mark : ℕ) (ms : List ℕ) → length (periodsOfMarks v u pace place mark ms) ≡ length ms
 unfolding periodsOfMarks
@@ -117,9 +111,9 @@ periods-many v u pace place mark [] = refl
 periods-many v u pace place mark (m ∷ ms) = ap suc (periods-many v u pace (placeAfterSize place pace (m - mark)) m ms)
 
 -- a period for each mark
-pub share-count : (v : Voice) (endBefore mark : ℕ) (u : Unit) (ms : List ℕ) → length (periodsOfShare v (shareOf endBefore mark u ms)) ≡ upToEnd u ms
+pub share-count : (natural : Bool) (v : Voice) (endBefore mark : ℕ) (u : Unit) (ms : List ℕ) → length (periodsOfShare v (shareOf natural endBefore mark u ms)) ≡ shareCount natural u ms
 unfolding periodsOfShare
-share-count v endBefore mark u ms = periods-many v u _ _ mark (take (upToEnd u ms) ms) ∙ share-many u ms
+share-count natural v endBefore mark u ms = periods-many v u _ _ mark (take (shareCount natural u ms) ms) ∙ length-take-le (shareCount natural u ms) ms (share-most natural u ms)
 
 -- of n marks a unit takes a, and of these and more b: it stopped before a mark, or ran out of them
 pub data Goes (n a b : ℕ) : Type 0 where
@@ -137,23 +131,26 @@ upTo-goes end (m ∷ ms) ns = by (leb m end) (upTo-goes end ms ns)
     by true (ranOut a b) = ranOut (omega arith) (omega arith)
     by false g = stopped (omega arith) refl
 
-pub end-goes : (u : Unit) (ms ns : List ℕ) → Goes (length ms) (upToEnd u ms) (upToEnd u (ms ++ ns))
-unfolding upToEnd
-end-goes u ms ns = upTo-goes (u .«target_end») ms ns
+pub share-goes : (natural : Bool) (u : Unit) (ms ns : List ℕ) → Goes (length ms) (shareCount natural u ms) (shareCount natural u (ms ++ ns))
+unfolding shareCount ownPeriods upToEnd
+share-goes true u ms ns =
+    let l = length-append ms ns in
+    by-order (length ms) (periodCount u) (λ h. ranOut (omega arith) (omega arith)) (λ h. stopped (omega arith) (omega arith))
+share-goes false u ms ns = upTo-goes (u .«target_end») ms ns
 
 -- ---- the marks that the units take are those up to their greatest target end
 
 abbrev Takes : ℕ → ℕ → List Unit → List ℕ → Type 0
-Takes endBefore mark us ms = marksTaken (sharesFrom endBefore mark us ms) ≡ upTo (greatestEnd us) ms
+Takes endBefore mark us ms = marksTaken (sharesFrom false endBefore mark us ms) ≡ upTo (greatestEnd us) ms
 
 unit-marks : (endBefore mark : ℕ) (u : Unit) (us : List Unit) (ms : List ℕ)
     → ((mark₁ : ℕ) (left : List ℕ) → upTo 0 left ≡ [] → Takes (u .«target_end») mark₁ us left) → Takes endBefore mark (u ∷ us) ms
-unfolding marksTaken sharesFrom flat greatestEnd upToEnd
+unfolding marksTaken sharesFrom flat greatestEnd shareCount upToEnd
 unit-marks endBefore mark u us ms others =
     let own = upTo (u .«target_end») ms in
     let left = drop (length own) ms in
-    ap (λ (l : List ℕ). l ++ marksTaken (sharesFrom (u .«target_end») (lastOf mark l) us left)) (take-upTo (u .«target_end») ms)
-    ∙ ap (λ (l : List ℕ). own ++ l) (others (lastOf mark own) left (upTo-stops (u .«target_end») ms))
+    ap (λ (l : List ℕ). l ++ marksTaken (sharesFrom false (u .«target_end») (lastOf mark l) us left)) (take-upTo (u .«target_end») ms)
+    ∙ ap (λ (l : List ℕ). own ++ l) (others (lastOf mark own) left (upTo-stops (u .«target_end») 0 (omega arith) ms))
     ∙ upTo-both (u .«target_end») (greatestEnd us) ms
 
 -- no unit takes no mark, not even one at 0
@@ -171,26 +168,30 @@ from-marks endBefore mark (u ∷ us) ms h = unit-marks endBefore mark u us ms (�
 abbrev pub twoMarks : Bool → List Share → List Share
 twoMarks t ss = elim t [ true ↦ [] | false ↦ ss ]
 
-module _ (us : List Unit) (ms : List ℕ) where
-  few-shares : length ms < 2 → shares us ms ≡ []
+module _ (natural : Bool) (us : List Unit) (ms : List ℕ) where
+  pub few-shares : length ms < 2 → shares natural us ms ≡ []
   unfolding shares
-  few-shares h = ap (λ (t : Bool). twoMarks t (sharesFrom 0 0 us ms)) (lt-ltb (length ms) 2 h)
+  few-shares h = ap (λ (t : Bool). twoMarks t (sharesFrom natural 0 0 us ms)) (lt-ltb (length ms) 2 h)
 
-  two-shares : 2 ≤ length ms → shares us ms ≡ sharesFrom 0 0 us ms
+  pub two-shares : 2 ≤ length ms → shares natural us ms ≡ sharesFrom natural 0 0 us ms
   unfolding shares
-  two-shares h = ap (λ (t : Bool). twoMarks t (sharesFrom 0 0 us ms)) (le-ltb (length ms) 2 h)
+  two-shares h = ap (λ (t : Bool). twoMarks t (sharesFrom natural 0 0 us ms)) (le-ltb (length ms) 2 h)
 
   -- 'Fewer than two marks give zero periods'
-  pub taken-none : (v : Voice) → length ms < 2 → taken v us ms ≡ []
+  pub taken-none : (v : Voice) → length ms < 2 → taken natural v us ms ≡ []
   unfolding taken flat
   taken-none v h = ap (flat (periodsOfShare v)) (few-shares h)
 
-  pub taken-from : (v : Voice) → 2 ≤ length ms → taken v us ms ≡ flat (periodsOfShare v) (sharesFrom 0 0 us ms)
+  pub taken-from : (v : Voice) → 2 ≤ length ms → taken natural v us ms ≡ flat (periodsOfShare v) (sharesFrom natural 0 0 us ms)
   unfolding taken
   taken-from v h = ap (flat (periodsOfShare v)) (two-shares h)
 
-  pub marks-taken : 2 ≤ length ms → 0 < length us → marksTaken (shares us ms) ≡ upTo (greatestEnd us) ms
-  marks-taken h some = ap marksTaken (two-shares h) ∙ from-marks 0 0 us ms some
+-- the marks that all units take: those up to the greatest target end
+abbrev pub TakesFront : Bool → List Unit → List ℕ → Type 0
+TakesFront natural us ms = marksTaken (shares natural us ms) ≡ upTo (greatestEnd us) ms
+
+pub marks-taken : (us : List Unit) (ms : List ℕ) → 2 ≤ length ms → 0 < length us → TakesFront false us ms
+marks-taken us ms h some = ap marksTaken (two-shares false us ms h) ∙ from-marks 0 0 us ms some
 
 -- ---- sizes depend on the marks taken alone
 
@@ -205,18 +206,18 @@ unfolding sizesOf periodsOfMarks sizesFrom lastOf periodOf
 share-sizes v u pace place mark [] ns rest e = e
 share-sizes v u pace place mark (m ∷ ms) ns rest e = ap (λ (l : List ℕ). (m - mark) ∷ l) (share-sizes v u pace (placeAfterSize place pace (m - mark)) m ms ns rest e)
 
-from-sizes : (v : Voice) (endBefore mark : ℕ) (us : List Unit) (ms : List ℕ)
-    → sizesOf (flat (periodsOfShare v) (sharesFrom endBefore mark us ms)) ≡ sizesFrom mark (marksTaken (sharesFrom endBefore mark us ms))
+from-sizes : (natural : Bool) (v : Voice) (endBefore mark : ℕ) (us : List Unit) (ms : List ℕ)
+    → sizesOf (flat (periodsOfShare v) (sharesFrom natural endBefore mark us ms)) ≡ sizesFrom mark (marksTaken (sharesFrom natural endBefore mark us ms))
 unfolding flat sharesFrom periodsOfShare marksTaken sizesFrom sizesOf
-from-sizes v endBefore mark [] ms = refl
-from-sizes v endBefore mark (u ∷ us) ms =
-    let own = take (upToEnd u ms) ms in
-    share-sizes v u (paceOf v u endBefore) (fin false 0 (pos 0)) mark own _ _ (from-sizes v (u .«target_end») (lastOf mark own) us (drop (upToEnd u ms) ms))
+from-sizes natural v endBefore mark [] ms = refl
+from-sizes natural v endBefore mark (u ∷ us) ms =
+    let n = shareCount natural u ms in
+    share-sizes v u (paceOf v u endBefore) (fin false 0 (pos 0)) mark (take n ms) _ _ (from-sizes natural v (u .«target_end») (lastOf mark (take n ms)) us (drop n ms))
 
-pub sizes-by-marks : (v : Voice) (us : List Unit) (ms : List ℕ) → sizesOf (taken v us ms) ≡ sizesFrom 0 (marksTaken (shares us ms))
+pub sizes-by-marks : (natural : Bool) (v : Voice) (us : List Unit) (ms : List ℕ) → sizesOf (taken natural v us ms) ≡ sizesFrom 0 (marksTaken (shares natural us ms))
 unfolding taken shares flat marksTaken sizesFrom sizesOf
-sizes-by-marks v us ms = by (ltb (length ms) 2)
+sizes-by-marks natural v us ms = by (ltb (length ms) 2)
   where
-    by : (t : Bool) → sizesOf (flat (periodsOfShare v) (twoMarks t (sharesFrom 0 0 us ms))) ≡ sizesFrom 0 (marksTaken (twoMarks t (sharesFrom 0 0 us ms)))
+    by : (t : Bool) → sizesOf (flat (periodsOfShare v) (twoMarks t (sharesFrom natural 0 0 us ms))) ≡ sizesFrom 0 (marksTaken (twoMarks t (sharesFrom natural 0 0 us ms)))
     by true = refl
-    by false = from-sizes v 0 0 us ms
+    by false = from-sizes natural v 0 0 us ms

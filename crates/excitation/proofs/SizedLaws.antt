@@ -24,7 +24,7 @@ use Rattle.marks.specs.Checking.{lastOf}
 use Rattle.marks.proofs.LimitLaws.{Low}
 use Rattle.excitation.specs.Source.{sourceOf, centred}
 use Rattle.excitation.specs.Nearest.{nearestPeriod, paceOf, placeAfterSize}
-use Rattle.excitation.specs.Shares.{upToEnd, Share, shareOf, sharesFrom, shares}
+use Rattle.excitation.specs.Shares.{shareCount, Share, shareOf, sharesFrom, shares}
 use Rattle.excitation.specs.Taken.{Period, periodOf, periodsOfMarks, periodsOfShare, taken, sizesOf, rowsOf, excitationOf, total}
 use Rattle.excitation.proofs.ShareLaws.{twoMarks}
 
@@ -45,29 +45,29 @@ module _ (v : Voice) (Q : ℕ → Type 0) (P : Period → Type 0) (so : (m mark 
   unfolding periodsOfShare
   share-each s e = marks-each (s .unit) (paceOf v (s .unit) (s .endBefore)) (fin false 0 (pos 0)) (s .mark) (s .marks) e
 
-  from-each : (endBefore mark : ℕ) (us : List Unit) (ms : List ℕ) → Each Q ms → Each P (flat (periodsOfShare v) (sharesFrom endBefore mark us ms))
+  from-each : (natural : Bool) (endBefore mark : ℕ) (us : List Unit) (ms : List ℕ) → Each Q ms → Each P (flat (periodsOfShare v) (sharesFrom natural endBefore mark us ms))
   unfolding flat sharesFrom
-  from-each endBefore mark [] ms e = nil
-  from-each endBefore mark (u ∷ us) ms e =
-      let s = shareOf endBefore mark u ms in
-      each-append P (periodsOfShare v s) _ (share-each s (each-take Q (upToEnd u ms) ms e))
-      (from-each (u .«target_end») (lastOf mark (s .marks)) us (drop (upToEnd u ms) ms) (each-drop Q (upToEnd u ms) ms e))
+  from-each natural endBefore mark [] ms e = nil
+  from-each natural endBefore mark (u ∷ us) ms e =
+      let n = shareCount natural u ms in
+      let s = shareOf natural endBefore mark u ms in
+      each-append P (periodsOfShare v s) _ (share-each s (each-take Q n ms e)) (from-each natural (u .«target_end») (lastOf mark (s .marks)) us (drop n ms) (each-drop Q n ms e))
 
-  taken-each : (us : List Unit) (ms : List ℕ) → Each Q ms → Each P (taken v us ms)
+  taken-each : (natural : Bool) (us : List Unit) (ms : List ℕ) → Each Q ms → Each P (taken natural v us ms)
   unfolding taken shares flat
-  taken-each us ms e = by (ltb (length ms) 2)
+  taken-each natural us ms e = by (ltb (length ms) 2)
     where
-      by : (t : Bool) → Each P (flat (periodsOfShare v) (twoMarks t (sharesFrom 0 0 us ms)))
+      by : (t : Bool) → Each P (flat (periodsOfShare v) (twoMarks t (sharesFrom natural 0 0 us ms)))
       by true = nil
-      by false = from-each 0 0 us ms e
+      by false = from-each natural 0 0 us ms e
 
 -- whatever the marks are
 module _ (v : Voice) (P : Period → Type 0) (so : (size p : ℕ) → P (periodOf v size p)) where
   share-all : (s : Share) → Each P (periodsOfShare v s)
   share-all s = share-each v (λ m. m ≡ m) P (λ m mark p q. so (m - mark) p) s (each-all (λ m. m ≡ m) (λ m. refl) (s .marks))
 
-  taken-all : (us : List Unit) (ms : List ℕ) → Each P (taken v us ms)
-  taken-all us ms = taken-each v (λ m. m ≡ m) P (λ m mark p q. so (m - mark) p) us ms (each-all (λ m. m ≡ m) (λ m. refl) ms)
+  taken-all : (natural : Bool) (us : List Unit) (ms : List ℕ) → Each P (taken natural v us ms)
+  taken-all natural us ms = taken-each v (λ m. m ≡ m) P (λ m mark p q. so (m - mark) p) natural us ms (each-all (λ m. m ≡ m) (λ m. refl) ms)
 
 -- ---- lengths
 
@@ -97,8 +97,8 @@ period-sized v size p = (length-row v p, length-centred size (sourceOf v p))
 pub share-sized : (v : Voice) (s : Share) → Sized (v .header .order) (periodsOfShare v s)
 share-sized v s = share-all v (HasSize (v .header .order)) (period-sized v) s
 
-pub taken-sized : (v : Voice) (us : List Unit) (ms : List ℕ) → Sized (v .header .order) (taken v us ms)
-taken-sized v us ms = taken-all v (HasSize (v .header .order)) (period-sized v) us ms
+pub taken-sized : (natural : Bool) (v : Voice) (us : List Unit) (ms : List ℕ) → Sized (v .header .order) (taken natural v us ms)
+taken-sized natural v us ms = taken-all v (HasSize (v .header .order)) (period-sized v) natural us ms
 
 -- all rows of the sizes are there
 pub rows-length : (order : ℕ) (ps : List Period) → Sized order ps → length (rowsOf ps) ≡ length (sizesOf ps) * order
@@ -115,11 +115,15 @@ sizes-total order (p ∷ ps) (cons (l, m) s) = rw (sizes-total order ps s, lengt
 
 -- ---- bounds
 
-pub taken-sizes : (v : Voice) (us : List Unit) (ms : List ℕ) → Each Low ms → Below (2 ^ 32) (map (λ (p : Period). p .size) (taken v us ms))
-unfolding periodOf
-taken-sizes v us ms e =
-    below-map (2 ^ 32) (omega arith) (λ (p : Period). p .size) (taken v us ms) (taken-each v Low (λ (p : Period). p .size < 2 ^ 32) (λ m mark p l. omega arith) us ms e)
+module _ (natural : Bool) (v : Voice) (us : List Unit) (ms : List ℕ) where
+  pub taken-sizes : Each Low ms → Below (2 ^ 32) (map (λ (p : Period). p .size) (taken natural v us ms))
+  unfolding periodOf
+  taken-sizes e =
+      below-map (2 ^ 32) (omega arith) (λ (p : Period). p .size) (taken natural v us ms)
+      (taken-each v Low (λ (p : Period). p .size < 2 ^ 32) (λ m mark p l. omega arith) natural us ms e)
 
-pub taken-rows : (v : Voice) (us : List Unit) (ms : List ℕ) → Bytes (v .lpc) → Below 65536 (flat (λ (p : Period). p .row) (taken v us ms))
-unfolding periodOf
-taken-rows v us ms h = below-flat 65536 (omega arith) (λ (p : Period). p .row) (taken v us ms) (taken-all v (λ (p : Period). Below 65536 (p .row)) (λ size p. row-low v h p) us ms)
+  pub taken-rows : Bytes (v .lpc) → Below 65536 (flat (λ (p : Period). p .row) (taken natural v us ms))
+  unfolding periodOf
+  taken-rows h =
+      below-flat 65536 (omega arith) (λ (p : Period). p .row) (taken natural v us ms)
+      (taken-all v (λ (p : Period). Below 65536 (p .row)) (λ size p. row-low v h p) natural us ms)

@@ -23,9 +23,9 @@ use Rattle.marks.specs.NaturalMarks.{periodCount}
 use Rattle.marks.specs.Checking.{lastOf}
 use Rattle.excitation.specs.Source.{sourceOf}
 use Rattle.excitation.specs.Nearest.{f32Of, nearestFrom, nearestPeriod, paceOf, placeAfterSize}
-use Rattle.excitation.specs.Shares.{upToEnd, sharesFrom}
+use Rattle.excitation.specs.Shares.{shareCount, sharesFrom}
 use Rattle.excitation.specs.Taken.{Period, periodOf, periodsOfMarks, periodsOfShare, taken}
-use Rattle.excitation.proofs.ShareLaws.{Goes, stopped, ranOut, end-goes, taken-none, taken-from}
+use Rattle.excitation.proofs.ShareLaws.{Goes, stopped, ranOut, share-goes, taken-none, taken-from}
 
 -- ---- more marks and more units
 
@@ -43,8 +43,8 @@ module _ (v : Voice) where
   abbrev with : ℕ → ℕ → Unit → List ℕ → List Period
   with endBefore mark u ms = periodsOfShare v (record { unit = u; endBefore = endBefore; mark = mark; marks = ms })
 
-  abbrev from : ℕ → ℕ → List Unit → List ℕ → List Period
-  from endBefore mark us ms = flat (periodsOfShare v) (sharesFrom endBefore mark us ms)
+  abbrev from : Bool → ℕ → ℕ → List Unit → List ℕ → List Period
+  from natural endBefore mark us ms = flat (periodsOfShare v) (sharesFrom natural endBefore mark us ms)
 
   periods-longer : (u : Unit) (pace place : Float) (mark : ℕ) (ms more : List ℕ) → Heads (periodsOfMarks v u pace place mark ms) (periodsOfMarks v u pace place mark (ms ++ more))
   unfolding periodsOfMarks
@@ -55,30 +55,33 @@ module _ (v : Voice) where
   unfolding periodsOfShare
   share-longer endBefore mark u {ms} {ns} h = let e = h .whole in rw e (periods-longer u (paceOf v u endBefore) (fin false 0 (pos 0)) mark ms (h .more))
 
-  none-taken : (endBefore mark : ℕ) (us : List Unit) → from endBefore mark us [] ≡ []
-  unfolding flat sharesFrom lastOf periodsOfShare periodsOfMarks
-  none-taken endBefore mark [] = refl
-  none-taken endBefore mark (u ∷ us) =
-      let a = take-nil {A = ℕ} (upToEnd u []) in
-      let b = drop-nil {A = ℕ} (upToEnd u []) in
-      rw (a, b) (none-taken (u .«target_end») mark us)
+  module _ (natural : Bool) where
+    none-taken : (endBefore mark : ℕ) (us : List Unit) → from natural endBefore mark us [] ≡ []
+    unfolding flat sharesFrom lastOf periodsOfShare periodsOfMarks
+    none-taken endBefore mark [] = refl
+    none-taken endBefore mark (u ∷ us) =
+        let a = take-nil {A = ℕ} (shareCount natural u []) in
+        let b = drop-nil {A = ℕ} (shareCount natural u []) in
+        rw (a, b) (none-taken (u .«target_end») mark us)
 
-  from-append : (endBefore mark : ℕ) (us vs : List Unit) (ms ns : List ℕ) → Heads (from endBefore mark us ms) (from endBefore mark (us ++ vs) (ms ++ ns))
-  unfolding flat sharesFrom
-  from-append endBefore mark [] vs ms ns = heads-nil _
-  from-append endBefore mark (u ∷ us) vs ms ns = by (upToEnd u ms) (upToEnd u (ms ++ ns)) (end-goes u ms ns) (λ m ms. from-append (u .«target_end») m us vs ms ns)
-    where
-      by : (a b : ℕ) → Goes (length ms) a b → ((m : ℕ) (ms : List ℕ) → Heads (from (u .«target_end») m us ms) (from (u .«target_end») m (us ++ vs) (ms ++ ns)))
-          → Heads (with endBefore mark u (take a ms) ++ from (u .«target_end») (lastOf mark (take a ms)) us (drop a ms))
-          (with endBefore mark u (take b (ms ++ ns)) ++ from (u .«target_end») (lastOf mark (take b (ms ++ ns))) (us ++ vs) (drop b (ms ++ ns)))
-      by a b (stopped l e) ih =
-          let p = take-append-le a ms ns l in
-          let q = drop-append-le a ms ns l in
-          rw (e, p, q) (heads-after (with endBefore mark u (take a ms)) (ih (lastOf mark (take a ms)) (drop a ms)))
-      by a b (ranOut l m) ih =
-          let p = take-all a ms l in
-          let q = drop-all a ms l in
-          rw (p, q, none-taken (u .«target_end») (lastOf mark ms) us, append-nil) (heads-longer _ (share-longer endBefore mark u (take-longer b ms ns m)))
+    from-append : (endBefore mark : ℕ) (us vs : List Unit) (ms ns : List ℕ) → Heads (from natural endBefore mark us ms) (from natural endBefore mark (us ++ vs) (ms ++ ns))
+    unfolding flat sharesFrom
+    from-append endBefore mark [] vs ms ns = heads-nil _
+    from-append endBefore mark (u ∷ us) vs ms ns =
+        by (shareCount natural u ms) (shareCount natural u (ms ++ ns)) (share-goes natural u ms ns) (λ m ms. from-append (u .«target_end») m us vs ms ns)
+      where
+        by : (a b : ℕ) → Goes (length ms) a b
+            → ((m : ℕ) (ms : List ℕ) → Heads (from natural (u .«target_end») m us ms) (from natural (u .«target_end») m (us ++ vs) (ms ++ ns)))
+            → Heads (with endBefore mark u (take a ms) ++ from natural (u .«target_end») (lastOf mark (take a ms)) us (drop a ms))
+            (with endBefore mark u (take b (ms ++ ns)) ++ from natural (u .«target_end») (lastOf mark (take b (ms ++ ns))) (us ++ vs) (drop b (ms ++ ns)))
+        by a b (stopped l e) ih =
+            let p = take-append-le a ms ns l in
+            let q = drop-append-le a ms ns l in
+            rw (e, p, q) (heads-after (with endBefore mark u (take a ms)) (ih (lastOf mark (take a ms)) (drop a ms)))
+        by a b (ranOut l m) ih =
+            let p = take-all a ms l in
+            let q = drop-all a ms l in
+            rw (p, q, none-taken (u .«target_end») (lastOf mark ms) us, append-nil) (heads-longer _ (share-longer endBefore mark u (take-longer b ms ns m)))
 
 -- ---- another voice with the same periods
 
@@ -126,28 +129,28 @@ module _ (v w : Voice) (n : ℕ) (g : Agree v w n) (some : 1 ≤ n) where
         let b = period-same (x - mark) (nearestPeriod v u place) (unit-low place) in
         rw (a, b, share-same pace (placeAfterSize place pace (x - mark)) x ms)
 
-  from-same : (endBefore mark : ℕ) (us : List Unit) (ms : List ℕ) → Within n us → from w endBefore mark us ms ≡ from v endBefore mark us ms
+  from-same : (natural : Bool) (endBefore mark : ℕ) (us : List Unit) (ms : List ℕ) → Within n us → from w natural endBefore mark us ms ≡ from v natural endBefore mark us ms
   unfolding flat sharesFrom periodsOfShare
-  from-same endBefore mark [] ms i = refl
-  from-same endBefore mark (u ∷ us) ms (cons l m i) =
-      let own = take (upToEnd u ms) ms in
+  from-same natural endBefore mark [] ms i = refl
+  from-same natural endBefore mark (u ∷ us) ms (cons l m i) =
+      let k = shareCount natural u ms in
       let a = pace-same u l m endBefore in
-      let b = share-same u l m (paceOf v u endBefore) (fin false 0 (pos 0)) mark own in
-      rw (a, b, from-same (u .«target_end») (lastOf mark own) us (drop (upToEnd u ms) ms) i)
+      let b = share-same u l m (paceOf v u endBefore) (fin false 0 (pos 0)) mark (take k ms) in
+      rw (a, b, from-same natural (u .«target_end») (lastOf mark (take k ms)) us (drop k ms) i)
 
 -- ---- the same with the test for two marks
 
-pub taken-append : (v : Voice) (us vs : List Unit) (ms ns : List ℕ) → Heads (taken v us ms) (taken v (us ++ vs) (ms ++ ns))
-taken-append v us vs ms ns =
+pub taken-append : (natural : Bool) (v : Voice) (us vs : List Unit) (ms ns : List ℕ) → Heads (taken natural v us ms) (taken natural v (us ++ vs) (ms ++ ns))
+taken-append natural v us vs ms ns =
     by-order (length ms) 2
-    (λ l. let a = taken-none us ms v l in rw a (heads-nil _))
+    (λ l. let a = taken-none natural us ms v l in rw a (heads-nil _))
     (λ l.
-    let a = taken-from us ms v l in
-    let b = taken-from (us ++ vs) (ms ++ ns) v (rw length-append (omega arith)) in
-    rw (a, b) (from-append v 0 0 us vs ms ns))
+    let a = taken-from natural us ms v l in
+    let b = taken-from natural (us ++ vs) (ms ++ ns) v (rw length-append (omega arith)) in
+    rw (a, b) (from-append v natural 0 0 us vs ms ns))
 
-pub taken-same : (v w : Voice) (n : ℕ) → Agree v w n → 1 ≤ n → (us : List Unit) (ms : List ℕ) → Within n us → taken w us ms ≡ taken v us ms
-taken-same v w n g some us ms i =
+pub taken-same : (v w : Voice) (n : ℕ) → Agree v w n → 1 ≤ n → (natural : Bool) (us : List Unit) (ms : List ℕ) → Within n us → taken natural w us ms ≡ taken natural v us ms
+taken-same v w n g some natural us ms i =
     by-order (length ms) 2
-    (λ l. taken-none us ms w l ∙ sym (taken-none us ms v l))
-    (λ l. taken-from us ms w l ∙ from-same v w n g some 0 0 us ms i ∙ sym (taken-from us ms v l))
+    (λ l. taken-none natural us ms w l ∙ sym (taken-none natural us ms v l))
+    (λ l. taken-from natural us ms w l ∙ from-same v w n g some natural 0 0 us ms i ∙ sym (taken-from natural us ms v l))

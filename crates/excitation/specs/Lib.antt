@@ -2,4 +2,5 @@
 pub mod Source
 pub mod Nearest
 pub mod Shares
+pub mod Makers
 pub mod Taken

@@ -1,5 +1,5 @@
 -- Document 01, 'Selecting and marking': the periods taken, one for each mark, and what they fill.
-use mathlib.Core.Bool.{false}
+use mathlib.Core.Bool.{Bool, false}
 use mathlib.Core.List.{List, [], _∷_, map}
 use Prim.Native.Nat.{ℕ, _+_, _-_}
 use lib.Dec.{ltb}
@@ -36,9 +36,9 @@ periodsOfMarks v u pace place mark (m ∷ ms) =
 unfoldable pub periodsOfShare : Voice → Share → List Period
 periodsOfShare v s = periodsOfMarks v (s .unit) (paceOf v (s .unit) (s .endBefore)) (fin false 0 (pos 0)) (s .mark) (s .marks)
 
--- 'Per unit, the marks not yet taken and not above the target end are taken in order.'
-unfoldable pub taken : Voice → List Unit → List ℕ → List Period
-taken v us ms = flat (periodsOfShare v) (shares us ms)
+-- the periods of all units; `natural` says that the join is the simple one
+unfoldable pub taken : Bool → Voice → List Unit → List ℕ → List Period
+taken natural v us ms = flat (periodsOfShare v) (shares natural us ms)
 
 -- ---- what the taken periods fill
 

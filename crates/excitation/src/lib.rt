@@ -1,6 +1,6 @@
 // The excitation: which pitch period each output period takes, and the window it is put into.
 ghost use mathlib.Core.Path.{_≡_};
-ghost use Prim.Native.Nat.{min, max, _+_, _-_, _*_, _≤_, _<_};
+ghost use Prim.Native.Nat.{min, max, _+_, _-_, _*_, _^_, _≤_, _<_};
 ghost use lib.ListN.{length, replicate};
 ghost use lib.Seq.{sets};
 ghost use Rattle.voice.specs.Voice.{voiceOf};
@@ -141,7 +141,7 @@ pub fn pace_of(file: &[u8], d: DiphoneVoice, unit: Unit, end_before: usize) -> f
 
 // The place in a unit after a taken size.
 pub fn place_after(place: f32, pace: f32, size: usize) -> f32
-    requires { ⌜ size ≤ 16777215 ⌝ }
+    requires { ⌜ size < 2 ^ 32 ⌝ }
     ensures { λ r. ⌜ r ≡ places.placeAfterSize place pace size ⌝ }
 {
     place + float::u32_to_f32(size as u32) * pace

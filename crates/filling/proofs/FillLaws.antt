@@ -25,11 +25,11 @@ use Rattle.units.specs.Selecting.{folded}
 use Rattle.units.proofs.AskedLaws.{holds-sorted}
 use Rattle.excitation.specs.Taken.{Period, taken, rowsOf, excitationOf}
 use Rattle.excitation.proofs.ShareLaws.{taken-none}
-use Rattle.excitation.proofs.SizedLaws.{Sized, taken-sized}
+use Rattle.excitation.proofs.SizedLaws.{Sized}
 use Rattle.call.specs.declared.Settings.{Settings}
 use Rattle.call.specs.declared.Need.{Need}
-use Rattle.call.specs.Call.{Plan, emptyPlan, planBy, planOf, periodsTaken}
-use Rattle.call.proofs.CallLaws.{twoSegments}
+use Rattle.call.specs.Call.{Plan, emptyPlan, planBy, planOf, isSimple, periodsTaken}
+use Rattle.call.proofs.CallLaws.{twoSegments, periods-sized}
 use Rattle.call.specs.Buffers.{Buffers, lent, filled, needOf, holds, lengthsOf, overAll}
 use Rattle.filling.specs.Filling.{planned, PeriodBuffers, lentPeriods, fillPeriods, HasRoom, joinTakes, CanJoin, CanFill}
 use Rattle.filling.proofs.PeriodLaws.{rows-count, fill-none, OverEach, fill-over}
@@ -89,8 +89,7 @@ module _ (file sheet : List ℕ) (o : Settings) (d : DiphoneVoice) (p : Places) 
   marks-room = leb-true _ (length (b .marks) / 4) (every-at _ rooms 1)
 
   sized : Sized (v .header .order) ps
-  unfolding periodsTaken
-  sized = taken-sized v (planOf v s o .units) (planOf v s o .marks)
+  sized = periods-sized v s o
 
   periods-room : HasRoom v 0 0 ps (lentPeriods (b .sizes) (b .rows) (b .excitation) (b .decoded))
   unfolding needOf holds
@@ -114,7 +113,7 @@ module _ (file sheet : List ℕ) (o : Settings) (d : DiphoneVoice) (p : Places) 
   unfolding periodsTaken flat
   few-filled i e l =
       let q : planOf v s o ≡ emptyPlan = plan-few v s o (subst (λ (k : ℕ). k < 2) (sym (segment-count sheet p (h .places))) l) in
-      let c : ps ≡ [] = ap (λ (x : Plan). taken v (x .units) (x .marks)) q ∙ taken-none [] [] v (omega arith) in
+      let c : ps ≡ [] = ap (λ (x : Plan). taken (isSimple (o .join)) v (x .units) (x .marks)) q ∙ taken-none (isSimple (o .join)) [] [] v (omega arith) in
       filled-all i (b .marks) four e (sym (ap (λ (x : Plan). over (flat (bytesOf 4) (x .marks)) (b .marks)) q ∙ over-nil (b .marks))) (sym (ap (λ (x : List Period). fillPeriods v 0 0 x four) c ∙ fill-none v 0 0 four))
 
   -- two or more
@@ -127,7 +126,7 @@ module _ (file sheet : List ℕ) (o : Settings) (d : DiphoneVoice) (p : Places) 
 
     periods-are : ps ≡ joinTakes (o .join) file sheet by
     unfolding periodsTaken
-    periods-are = ap (λ (q : Plan). taken v (q .units) (q .marks)) plan-is
+    periods-are = ap (λ (q : Plan). taken (isSimple (o .join)) v (q .units) (q .marks)) plan-is
 
     pub can-join : (index : List ℕ) → index ≡ over (indexBytes v) (b .index) → length file < 2 ^ 63 → CanJoin (o .join) file index sheet by (n .marks) (length (b .marks)) four
     unfolding needOf holds

@@ -34,9 +34,9 @@ use Rattle.excitation.specs.Taken.{Period}
 use Rattle.excitation.proofs.ShareLaws.{taken-none, taken-from}
 use Rattle.call.specs.declared.JoinType.{JoinType}
 use Rattle.call.specs.declared.JoinType.the-variants.{None, Simple, ModifiedLpc}
-use Rattle.call.specs.Call.{simplePlan, modifiedPlan, planBy}
+use Rattle.call.specs.Call.{simplePlan, modifiedPlan, planBy, isSimple}
 use Rattle.call.proofs.FilledLaws.{by-low}
-use Rattle.filling.specs.Filling.{selected, planned, isSimple, CanStoreMarks, joinUnits, PeriodBuffers, fillPeriods, HasRoom, takenFrom}
+use Rattle.filling.specs.Filling.{selected, planned, CanStoreMarks, joinUnits, PeriodBuffers, fillPeriods, HasRoom, takenFrom}
 use Rattle.filling.specs.Filling.{unitsTake, CanTakeUnits, joinTakes, CanTakePeriods, CanJoin}
 use Rattle.filling.proofs.PeriodLaws.{fill-none}
 
@@ -99,7 +99,7 @@ module _ (join : JoinType) (file index sheet : List ℕ) (by : Selection) (count
   -- fewer than two marks
   pub periods-none : count < 2 → b ≡ fillPeriods v 0 0 (joinTakes join file sheet by) b
   periods-none l =
-      sym (ap (λ (ps : List Period). fillPeriods v 0 0 ps b) (taken-none (planned join file sheet by .units) ms v (subst (λ (n : ℕ). n < 2) (h .counted) l)) ∙ fill-none v 0 0 b)
+      sym (ap (λ (ps : List Period). fillPeriods v 0 0 ps b) (taken-none (isSimple join) (planned join file sheet by .units) ms v (subst (λ (n : ℕ). n < 2) (h .counted) l)) ∙ fill-none v 0 0 b)
 
   module _ (l : 2 ≤ count) where
     two : 2 ≤ length ms
@@ -110,9 +110,9 @@ module _ (join : JoinType) (file index sheet : List ℕ) (by : Selection) (count
 
     same-periods : unitsTake (isSimple join) file sheet by (take (4 * count) marks) ≡ joinTakes join file sheet by
     same-periods =
-        ap (takenFrom v 0 0 (joinUnits (isSimple join) v 0 (selected file sheet by))) read-back
-        ∙ ap (λ (us : List Unit). takenFrom v 0 0 us ms) (sym (join-units v (folded (by .fold) (sheetOf sheet .segments)) (sheetOf sheet .targets) join two))
-        ∙ sym (taken-from (planned join file sheet by .units) ms v two)
+        ap (takenFrom (isSimple join) v 0 0 (joinUnits (isSimple join) v 0 (selected file sheet by))) read-back
+        ∙ ap (λ (us : List Unit). takenFrom (isSimple join) v 0 0 us ms) (sym (join-units v (folded (by .fold) (sheetOf sheet .segments)) (sheetOf sheet .targets) join two))
+        ∙ sym (taken-from (isSimple join) (planned join file sheet by .units) ms v two)
 
     can-units : CanTakeUnits (isSimple join) file index sheet by (take (4 * count) marks) b
     can-units =

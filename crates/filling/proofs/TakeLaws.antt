@@ -27,7 +27,7 @@ use Rattle.units.specs.Walking.{unitsLeft, StartsUnits}
 use Rattle.marks.specs.NaturalMarks.{periodCount, naturalUnits}
 use Rattle.marks.specs.Checking.{lastOf}
 use Rattle.marks.specs.Rising.{Rising}
-use Rattle.excitation.specs.Shares.{upToEnd, Share, shareOf, sharesFrom}
+use Rattle.excitation.specs.Shares.{shareCount, Share, shareOf, sharesFrom}
 use Rattle.excitation.specs.Taken.{Period, periodsOfShare, rowsOf, excitationOf}
 use Rattle.excitation.proofs.ShareLaws.{front-rises, rest-rises}
 use Rattle.excitation.proofs.SizedLaws.{Sized, share-sized}
@@ -73,10 +73,11 @@ record UnitTakes (v : Voice) (s : Share) (left : List ℕ) : Type 0 where
   ends : s .mark + length (excitationOf (periodsOfShare v s)) ≡ lastOf (s .mark) (s .marks)
   rising : Rising (lastOf (s .mark) (s .marks)) left
 
-unit-takes : (v : Voice) (endBefore mark : ℕ) (u : Unit) (ms : List ℕ) → Rising mark ms → UnitTakes v (shareOf endBefore mark u ms) (drop (upToEnd u ms) ms)
-unit-takes v endBefore mark u ms r =
-    let s = shareOf endBefore mark u ms in
-    record { sized = share-sized v s; ends = share-last v s (front-rises (upToEnd u ms) mark ms r); rising = rest-rises (upToEnd u ms) mark ms r }
+unit-takes : (natural : Bool) (v : Voice) (endBefore mark : ℕ) (u : Unit) (ms : List ℕ) → Rising mark ms → UnitTakes v (shareOf natural endBefore mark u ms) (drop (shareCount natural u ms) ms)
+unit-takes natural v endBefore mark u ms r =
+    let s = shareOf natural endBefore mark u ms in
+    let n = shareCount natural u ms in
+    record { sized = share-sized v s; ends = share-last v s (front-rises n mark ms r); rising = rest-rises n mark ms r }
 
 -- ---- one turn of the loop
 
@@ -85,8 +86,8 @@ pub record UnitsTaking (v : Voice) (natural : Bool) (us : List Unit) (end taken 
   pub low : endRefusal (joinUnits natural v end us) ≡ none
   pub endLow : end ≤ limit
   pub rising : Rising mark left
-  pub room : HasRoom v taken mark (takenFrom v end mark (joinUnits natural v end us) left) b
-  pub filled : fillPeriods v taken mark (takenFrom v end mark (joinUnits natural v end us) left) b ≡ all
+  pub room : HasRoom v taken mark (takenFrom natural v end mark (joinUnits natural v end us) left) b
+  pub filled : fillPeriods v taken mark (takenFrom natural v end mark (joinUnits natural v end us) left) b ≡ all
 
 same-taking : (v : Voice) (natural : Bool) (us : List Unit) (end taken taken₁ mark mark₁ : ℕ) (left left₁ : List ℕ) (b b₁ all : PeriodBuffers) → taken₁ ≡ taken → mark₁ ≡ mark → left₁ ≡ left → b₁ ≡ b
     → UnitsTaking v natural us end taken mark left b all → UnitsTaking v natural us end taken₁ mark₁ left₁ b₁ all
@@ -106,8 +107,8 @@ pub taking-done : (v : Voice) (natural : Bool) (us : List Unit) (end taken mark 
 unfolding sharesFrom flat
 taking-done v natural us end taken mark left b all k e =
     sym (fill-none v taken mark b)
-    ∙ ap (λ (l : List Unit). fillPeriods v taken mark (takenFrom v end mark l left) b) (sym (join-none natural v end))
-    ∙ ap (λ (l : List Unit). fillPeriods v taken mark (takenFrom v end mark (joinUnits natural v end l) left) b) (sym e)
+    ∙ ap (λ (l : List Unit). fillPeriods v taken mark (takenFrom natural v end mark l left) b) (sym (join-none natural v end))
+    ∙ ap (λ (l : List Unit). fillPeriods v taken mark (takenFrom natural v end mark (joinUnits natural v end l) left) b) (sym e)
     ∙ k .filled
 
 module _ (v : Voice) (natural : Bool) (us : List Unit) (end taken mark : ℕ) (left : List ℕ) (b all : PeriodBuffers) (k : UnitsTaking v natural us end taken mark left b all)
@@ -116,7 +117,7 @@ module _ (v : Voice) (natural : Bool) (us : List Unit) (end taken mark : ℕ) (l
   w = joinUnit natural v end u
 
   abbrev s : Share
-  s = shareOf end mark w left
+  s = shareOf natural end mark w left
 
   abbrev ps : List Period
   ps = periodsOfShare v s
@@ -126,13 +127,13 @@ module _ (v : Voice) (natural : Bool) (us : List Unit) (end taken mark : ℕ) (l
   last = lastOf mark (s .marks)
 
   abbrev left₁ : List ℕ
-  left₁ = drop (upToEnd w left) left
+  left₁ = drop (shareCount natural w left) left
 
   abbrev after : List Unit
   after = joinUnits natural v (w .«target_end») rest
 
   abbrev others : List Period
-  others = takenFrom v (w .«target_end») last after left₁
+  others = takenFrom natural v (w .«target_end») last after left₁
 
   join-is : joinUnits natural v end us ≡ w ∷ after
   join-is = ap (joinUnits natural v end) e ∙ join-more natural v end u rest
@@ -141,11 +142,11 @@ module _ (v : Voice) (natural : Bool) (us : List Unit) (end taken mark : ℕ) (l
   lows = low-first w after (sym (ap endRefusal join-is) ∙ k .low)
 
   takes : UnitTakes v s left₁
-  takes = unit-takes v end mark w left (k .rising)
+  takes = unit-takes natural v end mark w left (k .rising)
 
-  taken-is : takenFrom v end mark (joinUnits natural v end us) left ≡ ps ++ others
+  taken-is : takenFrom natural v end mark (joinUnits natural v end us) left ≡ ps ++ others
   unfolding sharesFrom flat
-  taken-is = ap (λ (l : List Unit). takenFrom v end mark l left) join-is
+  taken-is = ap (λ (l : List Unit). takenFrom natural v end mark l left) join-is
 
   room-is : HasRoom v taken mark (ps ++ others) b
   room-is = subst (λ (ps : List Period). HasRoom v taken mark ps b) taken-is (k .room)
@@ -197,13 +198,13 @@ module _ (file : List ℕ) (d : DiphoneVoice) (o : IsOpen file d) (natural : Boo
   order-is : voiceOf file .header .order ≡ d .header .order
   order-is = ap (λ (h : VoiceHeader). h .order) (header-is file d (o .places))
 
-  pub can-take : Inside (d .header .frames) u → Held (voiceOf file) decoded (at .front) → CanTake file d x end marks at (length sizes) (length rows) (length excitation) decoded
+  pub can-take : Inside (d .header .frames) u → Held (voiceOf file) decoded (at .front) → CanTake natural file d x end marks at (length sizes) (length rows) (length excitation) decoded
   can-take i h =
       let m = drop (at .taken) (elements 4 marks) in
       let b = lentPeriods sizes rows excitation decoded in
       let r = room-unit (voiceOf file) natural us end (at .taken) (at .mark) m b all k u rest e in
       let g = takes (voiceOf file) natural us end (at .taken) (at .mark) m b all k u rest e .ends in
-      subst (λ (x : Unit). CanTake file d x end marks at (length sizes) (length rows) (length excitation) decoded) (sym q)
+      subst (λ (x : Unit). CanTake natural file d x end marks at (length sizes) (length rows) (length excitation) decoded) (sym q)
       (record {
         opened = o;
         inside = record { rising = i .rising; within = i .within; short = i .short };
@@ -211,13 +212,13 @@ module _ (file : List ℕ) (d : DiphoneVoice) (o : IsOpen file d) (natural : Boo
         low = taking-low (voiceOf file) natural us end (at .taken) (at .mark) m b all k u rest e;
         rising = k .rising;
         sizesRoom = r .sizes;
-        rowsRoom = subst (λ (n : ℕ). 2 * (n * (at .taken + length (unitTaken (voiceOf file) joined end marks at))) ≤ length rows) order-is (r .rows);
+        rowsRoom = subst (λ (n : ℕ). 2 * (n * (at .taken + length (unitTaken natural (voiceOf file) joined end marks at))) ≤ length rows) order-is (r .rows);
         excitationRoom = subst (λ (n : ℕ). n ≤ length excitation) g (r .excitation);
         decodedRoom = r .decoded;
         held = h;
       })
 
-  pub take-next : (r : Progress) (sizes₁ rows₁ excitation₁ decoded₁ : List ℕ) → Takes file d x end marks at r sizes sizes₁ rows rows₁ excitation excitation₁ decoded decoded₁
+  pub take-next : (r : Progress) (sizes₁ rows₁ excitation₁ decoded₁ : List ℕ) → Takes natural file d x end marks at r sizes sizes₁ rows rows₁ excitation excitation₁ decoded decoded₁
       → length decoded₁ ≡ length decoded
       → UnitsTaking (voiceOf file) natural rest (x .«target_end») (r .taken) (r .mark) (drop (r .taken) (elements 4 marks)) (lentPeriods sizes₁ rows₁ excitation₁ decoded₁) all
   unfolding fillPeriods
@@ -225,7 +226,9 @@ module _ (file : List ℕ) (d : DiphoneVoice) (o : IsOpen file d) (natural : Boo
       let m = drop (at .taken) (elements 4 marks) in
       let b = lentPeriods sizes rows excitation decoded in
       let b₁ = lentPeriods sizes₁ rows₁ excitation₁ decoded₁ in
-      let s = subst (λ (x : Unit). Takes file d x end marks at r sizes sizes₁ rows rows₁ excitation excitation₁ decoded decoded₁) q given in
+      let s = subst (λ (x : Unit). Takes natural file d x end marks at r sizes sizes₁ rows rows₁ excitation excitation₁ decoded decoded₁) q given in
       subst (λ (x : Unit). UnitsTaking (voiceOf file) natural rest (x .«target_end») (r .taken) (r .mark) (drop (r .taken) (elements 4 marks)) b₁ all) (sym q)
       (taking-next (voiceOf file) natural us end (at .taken) (at .mark) m b all k u rest e (r .taken) (r .mark) (drop (r .taken) (elements 4 marks)) b₁ (s .taken) (s .mark) (s .left)
-      (same-buffers (s .sizes) (s .rows ∙ ap (λ (n : ℕ). sets rows (2 * (n * at .taken)) (flat (bytesOf 2) (rowsOf (unitTaken (voiceOf file) joined end marks at)))) (sym order-is)) (s .excitation) (s .decoded)) l)
+      (same-buffers (s .sizes)
+      (s .rows ∙ ap (λ (n : ℕ). sets rows (2 * (n * at .taken)) (flat (bytesOf 2) (rowsOf (unitTaken natural (voiceOf file) joined end marks at)))) (sym order-is))
+      (s .excitation) (s .decoded)) l)

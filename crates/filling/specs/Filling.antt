@@ -1,6 +1,6 @@
 -- Inner: What is asked of a call whose buffers are filled, and what is left in them.
 use mathlib.Core.Path.{_≡_}
-use mathlib.Core.Bool.{Bool, true, false}
+use mathlib.Core.Bool.{Bool, true}
 use mathlib.Core.List.{List}
 use mathlib.Core.Option.{none}
 use Prim.Native.Nat.{ℕ, _+_, _*_, _≤_, _<_}
@@ -27,10 +27,9 @@ use Rattle.marks.specs.Rising.{Rising}
 use Rattle.excitation.specs.Shares.{sharesFrom}
 use Rattle.excitation.specs.Taken.{Period, periodsOfShare, taken, sizesOf, rowsOf, excitationOf, decodedOver}
 use Rattle.call.specs.declared.JoinType.{JoinType}
-use Rattle.call.specs.declared.JoinType.the-variants.{None, Simple, ModifiedLpc}
 use Rattle.call.specs.declared.Settings.{Settings}
 use Rattle.call.specs.declared.Need.{Need}
-use Rattle.call.specs.Call.{Plan, planBy, planOf}
+use Rattle.call.specs.Call.{Plan, planBy, planOf, isSimple}
 use Rattle.call.specs.Buffers.{Buffers, needOf, holds, lengthsOf}
 
 -- the units that are selected from the sheet
@@ -45,11 +44,6 @@ planned join file sheet by = planBy join (voiceOf file) (folded (by .fold) (shee
 pub record CanSelect (file index sheet : List ℕ) (by : Selection) : Type 0 where
   pub searchable : Searchable file index by
   pub places : answerIn (sheetPlaces sheet) ≡ Read (by .places)
-
-abbrev pub isSimple : JoinType → Bool
-isSimple None = false
-isSimple Simple = true
-isSimple ModifiedLpc = false
 
 -- two segments or more, marks that are not refused, and room for `count` of them in n bytes; in the simple join these are all
 pub record CanStoreMarks (join : JoinType) (file index sheet : List ℕ) (by : Selection) (count n : ℕ) : Type 0 where
@@ -103,13 +97,13 @@ pub record HasRoom (v : Voice) (taken mark : ℕ) (ps : List Period) (b : Period
   pub decoded : decodeRoom v ≤ length (b .decoded)
 
 -- the periods that units take of some marks, after a target end and a mark
-abbrev pub takenFrom : Voice → ℕ → ℕ → List Unit → List ℕ → List Period
-takenFrom v end mark us ms = flat (periodsOfShare v) (sharesFrom end mark us ms)
+abbrev pub takenFrom : Bool → Voice → ℕ → ℕ → List Unit → List ℕ → List Period
+takenFrom natural v end mark us ms = flat (periodsOfShare v) (sharesFrom natural end mark us ms)
 
 -- those that the units take of the stored marks
 abbrev pub unitsTake : Bool → List ℕ → List ℕ → Selection → List ℕ → List Period
 unitsTake natural file sheet by marks =
-    takenFrom (voiceOf file) 0 0 (joinUnits natural (voiceOf file) 0 (selected file sheet by)) (elements 4 marks)
+    takenFrom natural (voiceOf file) 0 0 (joinUnits natural (voiceOf file) 0 (selected file sheet by)) (elements 4 marks)
 
 -- there are units, no target end is above the limit, the stored marks do not fall, and there is room for the periods
 pub record CanTakeUnits (natural : Bool) (file index sheet : List ℕ) (by : Selection) (marks : List ℕ) (b : PeriodBuffers) : Type 0 where
@@ -122,7 +116,7 @@ pub record CanTakeUnits (natural : Bool) (file index sheet : List ℕ) (by : Sel
 -- ---- the periods of a join
 
 abbrev pub joinTakes : JoinType → List ℕ → List ℕ → Selection → List Period
-joinTakes join file sheet by = taken (voiceOf file) (planned join file sheet by .units) (planned join file sheet by .marks)
+joinTakes join file sheet by = taken (isSimple join) (voiceOf file) (planned join file sheet by .units) (planned join file sheet by .marks)
 
 -- the marks are stored, `count` of them, and there is room for the periods
 pub record CanTakePeriods (join : JoinType) (file index sheet : List ℕ) (by : Selection) (count : ℕ) (marks : List ℕ) (b : PeriodBuffers) : Type 0 where

@@ -9,9 +9,10 @@ ghost use Rattle.voice.specs.Opening.{IsOpen};
 ghost use Rattle.sheet.specs.Sheet.{sheetOf};
 ghost use Rattle.units.specs.Units.{Inside};
 ghost use Rattle.call.specs.declared.JoinType.the-variants as joins;
+ghost use Rattle.call.specs.Call.{isSimple};
 ghost use Rattle.call.specs.Buffers.{lent, filled, overAll};
 ghost use Rattle.filling.specs.Filling.{planned, CanStoreMarks, CanMark, joinUnit, lentPeriods, fillPeriods, unitsTake};
-ghost use Rattle.filling.specs.Filling.{CanTakeUnits, joinTakes, isSimple, CanTakePeriods, CanJoin, CanFill};
+ghost use Rattle.filling.specs.Filling.{CanTakeUnits, joinTakes, CanTakePeriods, CanJoin, CanFill};
 use call::JoinType;
 use call::Need;
 use call::Settings;
@@ -129,6 +130,7 @@ fn take_units(
         let step = units::step::next_unit(file, index, sheet, by, &sampled, walk);
         let unit = join_unit(file, voice, step.unit, natural, end);
         at = taking::take_unit(
+            natural,
             file,
             voice,
             unit,

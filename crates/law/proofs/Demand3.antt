@@ -19,7 +19,7 @@ use Rattle.voice.specs.Voice.{Voice, voiceOf}
 use Rattle.sheet.specs.Sheet.{Sheet, sheetOf}
 use Rattle.sheet.proofs.SheetLaws.{sheet-refers}
 use Rattle.excitation.specs.Taken.{sizesOf, rowsOf}
-use Rattle.excitation.proofs.SizedLaws.{taken-sized, rows-length}
+use Rattle.excitation.proofs.SizedLaws.{rows-length}
 use Rattle.lpc.specs.declared.FilterState.{FilterState}
 use Rattle.call.specs.declared.Settings.{Settings}
 use Rattle.call.specs.Call.{planOf, periodsTaken, periodsOf, samplesOfCall}
@@ -33,7 +33,7 @@ use Rattle.call.specs.Pull.{lentOf, pullOf}
 use Rattle.call.specs.Machine.{Shown, pulls, shows, machine, written, samplesWritten, bytesOfPeriods, given, SaysDone}
 use Rattle.call.proofs.PullLaws.{shows-done, fresh-machine}
 use Rattle.call.proofs.MachineLaws.{machine-writes, machine-at, machine-within, before-within, shows-done-all, shows-refused, machine-done-all}
-use Rattle.call.proofs.CallLaws.{periods-ahead, periods-equal}
+use Rattle.call.proofs.CallLaws.{periods-sized, periods-ahead, periods-equal}
 use Rattle.call.proofs.FilledLaws.{periods-low, periods-back}
 use Rattle.call.proofs.SpokenLaws.{opened, planned, fresh}
 use Rattle.call.proofs.LentLaws.{lentTaken, lent-filled}
@@ -50,10 +50,7 @@ use Rattle.law.specs.Demand3.{WholeLists, HasPulls, Claim, Demand3, answ
 -- ---- every list of pulls
 
 rows-taken : (c : SpokenCall) → length (rowsOf (periodsTaken (voiceIn c) (sheetIn c) (c .settings))) ≡ length (sizesOf (periodsTaken (voiceIn c) (sheetIn c) (c .settings))) * voiceIn c .header .order
-unfolding periodsTaken
-rows-taken c =
-    let p = planOf (voiceIn c) (sheetIn c) (c .settings) in
-    rows-length (voiceIn c .header .order) _ (taken-sized (voiceIn c) (p .units) (p .marks))
+rows-taken c = rows-length (voiceIn c .header .order) _ (periods-sized (voiceIn c) (sheetIn c) (c .settings))
 
 flat-heads : {A B : Type 0} (enc : A → List B) {s t : List A} → Heads s t → Heads (flat enc s) (flat enc t)
 flat-heads enc {s} h = heads-by (flat enc (h .more)) (ap (flat enc) (h .whole) ∙ flat-append enc s (h .more))

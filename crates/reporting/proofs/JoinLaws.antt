@@ -6,7 +6,7 @@ use mathlib.Core.Option.{none}
 use Prim.Native.Nat.{ℕ, zero, suc, _+_, _-_, _*_, _≤_, _<_}
 use native.Mathlib.Omega.{arith}
 use borrow.Author.Tests.{le-ltb}
-use lib.ListN.{length, take, drop, length-append, length-drop, length-take}
+use lib.ListN.{length, take, drop, length-append, length-drop, length-take, take-append-drop}
 use lib.Seq.{sets, take-nil, take-take, drop-at, length-take-le}
 use Rattle.base.specs.Buffers.{flat, over}
 use Rattle.base.specs.Bytes.{bytesOf, elements}
@@ -28,19 +28,19 @@ use Rattle.marks.specs.NaturalMarks.{naturalMarks, naturalUnits}
 use Rattle.marks.specs.Checking.{lastOf}
 use Rattle.marks.specs.Rising.{Rising}
 use Rattle.marks.proofs.LimitLaws.{Low}
-use Rattle.excitation.specs.Shares.{upToEnd, shareOf, sharesFrom, shares}
-use Rattle.excitation.proofs.ShareLaws.{front-rises, end-none, end-above, end-takes, share-most, twoMarks, taken-none}
+use Rattle.excitation.specs.Shares.{shareCount, shareOf, sharesFrom, shares}
+use Rattle.excitation.proofs.ShareLaws.{front-rises, share-most, Goes, stopped, ranOut, share-goes, twoMarks, taken-none}
 use Rattle.excitation.proofs.CountLaws.{taken-most, natural-count}
 use Rattle.call.specs.declared.JoinType.{JoinType}
 use Rattle.call.specs.declared.JoinType.the-variants.{None, Simple, ModifiedLpc}
 use Rattle.call.specs.declared.Settings.{Settings}
 use Rattle.call.specs.declared.Need.{Need}
-use Rattle.call.specs.Call.{Plan, simplePlan, planBy, planOf}
+use Rattle.call.specs.Call.{Plan, simplePlan, planBy, planOf, isSimple}
 use Rattle.call.specs.Buffers.{needOf, checkRefusal}
 use Rattle.call.proofs.FilledLaws.{by-low}
 use Rattle.checking.specs.declared.Fit.{Fit}
 use Rattle.checking.specs.Checks.{Passes}
-use Rattle.filling.specs.Filling.{planned, CanSelect, CanStoreMarks, isSimple}
+use Rattle.filling.specs.Filling.{planned, CanSelect, CanStoreMarks}
 use Rattle.filling.proofs.JoinLaws.{open-rate, join-rises, join-units, join-low, low-below}
 use Rattle.filling.proofs.FillLaws.{segment-count, plan-few, plan-some}
 use Rattle.reporting.specs.Report.{Line, linesOfShare, linesOf, reportOf, lineBytes, reportBytes}
@@ -52,55 +52,56 @@ use Rattle.reporting.proofs.UnitLaws.{marks-many}
 
 -- ---- the first marks alone, as many as are taken
 
-end-front : (u : Unit) (n : ℕ) (ms : List ℕ) → upToEnd u ms ≤ n → upToEnd u (take n ms) ≡ upToEnd u ms
-end-front u zero ms h = end-none u ∙ (let z : 0 ≡ upToEnd u ms = omega arith in z)
-end-front u (suc n) [] h = refl
-end-front u (suc n) (m ∷ ms) h =
-    by-order (u .«target_end») m
-    (λ l. end-above u m (take n ms) l ∙ sym (end-above u m ms l))
-    (λ l. let e = end-takes u m ms l in end-takes u m (take n ms) l ∙ ap suc (end-front u n ms (omega arith)) ∙ sym e)
+share-front : (natural : Bool) (u : Unit) (n : ℕ) (ms : List ℕ) → shareCount natural u ms ≤ n → shareCount natural u (take n ms) ≡ shareCount natural u ms
+share-front natural u n ms h =
+    by (share-goes natural u (take n ms) (drop n ms)) (share-most natural u (take n ms)) (share-most natural u ms) (ap (shareCount natural u) (take-append-drop n ms))
+  where
+    by : {a b : ℕ} → Goes (length (take n ms)) a b → a ≤ length (take n ms) → shareCount natural u ms ≤ length ms → b ≡ shareCount natural u ms → a ≡ shareCount natural u ms
+    by (stopped l e) p q f = sym e ∙ f
+    by (ranOut l m) p q f = let k = length-take n ms in omega arith
 
 drop-front : (k n : ℕ) (ms : List ℕ) → drop k (take (k + n) ms) ≡ take n (drop k ms)
 drop-front zero n ms = let z : 0 + n ≡ n = omega arith in rw z
 drop-front (suc k) n [] = ap (drop (suc k)) (take-nil (suc k + n)) ∙ sym (take-nil n)
 drop-front (suc k) n (m ∷ ms) = let e : suc k + n ≡ suc (k + n) = omega arith in rw e (drop-front k n ms)
 
-shares-front : (end mark n : ℕ) (us : List Unit) (ms : List ℕ) → length (flat linesOfShare (sharesFrom end mark us ms)) ≤ n → sharesFrom end mark us (take n ms) ≡ sharesFrom end mark us ms
+shares-front : (natural : Bool) (end mark n : ℕ) (us : List Unit) (ms : List ℕ) → length (flat linesOfShare (sharesFrom natural end mark us ms)) ≤ n
+    → sharesFrom natural end mark us (take n ms) ≡ sharesFrom natural end mark us ms
 unfolding sharesFrom flat linesOfShare
-shares-front end mark n [] ms h = refl
-shares-front end mark n (u ∷ us) ms h =
-    let k = upToEnd u ms in
+shares-front natural end mark n [] ms h = refl
+shares-front natural end mark n (u ∷ us) ms h =
+    let k = shareCount natural u ms in
     let own = take k ms in
-    let others = flat linesOfShare (sharesFrom (u .«target_end») (lastOf mark own) us (drop k ms)) in
-    let l = length-append (linesOfShare (shareOf end mark u ms)) others in
-    let a : length (linesOfShare (shareOf end mark u ms)) ≡ k = marks-many u mark own ∙ length-take-le k ms (share-most u ms) in
-    let i = shares-front (u .«target_end») (lastOf mark own) (n - k) us (drop k ms) (omega arith) in
-    let e : upToEnd u (take n ms) ≡ k = end-front u n ms (omega arith) in
+    let others = flat linesOfShare (sharesFrom natural (u .«target_end») (lastOf mark own) us (drop k ms)) in
+    let l = length-append (linesOfShare (shareOf natural end mark u ms)) others in
+    let a : length (linesOfShare (shareOf natural end mark u ms)) ≡ k = marks-many u mark own ∙ length-take-le k ms (share-most natural u ms) in
+    let i = shares-front natural (u .«target_end») (lastOf mark own) (n - k) us (drop k ms) (omega arith) in
+    let e : shareCount natural u (take n ms) ≡ k = share-front natural u n ms (omega arith) in
     let f : take k (take n ms) ≡ own = take-take k n ms (omega arith) in
     let m : n ≡ k + (n - k) = omega arith in
     let g : drop k (take n ms) ≡ take (n - k) (drop k ms) = ap (λ (j : ℕ). drop k (take j ms)) m ∙ drop-front k (n - k) ms in
     rw (e, f, g, i)
 
-lines-from : (us : List Unit) (ms : List ℕ) → 2 ≤ length ms → linesOf us ms ≡ flat linesOfShare (sharesFrom 0 0 us ms)
+lines-from : (natural : Bool) (us : List Unit) (ms : List ℕ) → 2 ≤ length ms → linesOf natural us ms ≡ flat linesOfShare (sharesFrom natural 0 0 us ms)
 unfolding linesOf shares
-lines-from us ms h = ap (λ (t : Bool). flat linesOfShare (twoMarks t (sharesFrom 0 0 us ms))) (le-ltb (length ms) 2 h)
+lines-from natural us ms h = ap (λ (t : Bool). flat linesOfShare (twoMarks t (sharesFrom natural 0 0 us ms))) (le-ltb (length ms) 2 h)
 
 -- where there are lines there are two marks or more
-lines-two : (v : Voice) (us : List Unit) (ms : List ℕ) → 0 < length (linesOf us ms) → 2 ≤ length ms
-lines-two v us ms h =
+lines-two : (natural : Bool) (v : Voice) (us : List Unit) (ms : List ℕ) → 0 < length (linesOf natural us ms) → 2 ≤ length ms
+lines-two natural v us ms h =
     by-order (length ms) 2
-    (λ l. let e = lines-many v us ms in let z = ap length (taken-none us ms v l) in absurd (omega arith))
+    (λ l. let e = lines-many natural v us ms in let z = ap length (taken-none natural us ms v l) in absurd (omega arith))
     (λ l. l)
 
 -- in the simple join every mark is taken
 simple-whole : (j : JoinType) (v : Voice) (ss : List SegmentRead) (ts : List Target) → isSimple j ≡ true
-    → let p = planBy j v ss ts in 2 ≤ length (p .marks) → length (p .marks) ≤ length (linesOf (p .units) (p .marks))
+    → let p = planBy j v ss ts in 2 ≤ length (p .marks) → length (p .marks) ≤ length (linesOf (isSimple j) (p .units) (p .marks))
 unfolding planBy simplePlan
 simple-whole None v ss ts e h = absurd (omega arith)
 simple-whole Simple v ss ts e h =
     let us = unitsOf v ss in
     let a = natural-count v us h in
-    let b = lines-many v (naturalUnits v 0 us) (naturalMarks v 0 us) in
+    let b = lines-many true v (naturalUnits v 0 us) (naturalMarks v 0 us) in
     omega arith
 simple-whole ModifiedLpc v ss ts e h = let z : _≡_ {A = ℕ} 0 1 = cc in absurd (omega arith)
 
@@ -114,17 +115,20 @@ module _ (join : JoinType) (file index sheet : List ℕ) (by : Selection) (count
   abbrev ss : List SegmentRead
   ss = folded (by .fold) (sheetOf sheet .segments)
 
+  abbrev simple : Bool
+  simple = isSimple join
+
   abbrev us : List Unit
   us = planned join file sheet by .units
 
   abbrev ms : List ℕ
   ms = planned join file sheet by .marks
 
-  some-lines : 0 < length (linesOf us ms)
+  some-lines : 0 < length (linesOf simple us ms)
   some-lines = subst (λ (n : ℕ). 0 < n) (h .1 .counted) (h .1 .some)
 
   two : 2 ≤ length ms
-  two = lines-two v us ms some-lines
+  two = lines-two simple v us ms some-lines
 
   pub can-store : (n : ℕ) → n ≡ length (drop (12 * count) lines) → CanStoreMarks join file index sheet by count n
   can-store n e =
@@ -143,8 +147,8 @@ module _ (join : JoinType) (file index sheet : List ℕ) (by : Selection) (count
 
   length-front : length front ≡ count
   length-front =
-      let a = lines-many v us ms in
-      let b = taken-most v us ms in
+      let a = lines-many simple v us ms in
+      let b = taken-most simple v us ms in
       length-take-le count ms (omega (arith, h .1 .counted, a, b))
 
   abbrev stored : List ℕ
@@ -197,12 +201,12 @@ module _ (join : JoinType) (file index sheet : List ℕ) (by : Selection) (count
         ap (λ (l : List ℕ). unitsReport natural file sheet by (marksAhead count l 0)) e
         ∙ ap (unitsReport natural file sheet by) ahead-is
         ∙ ap (λ (b : Bool). unitsReport b file sheet by front) q
-        ∙ ap (λ (l : List Unit). flat linesOfShare (sharesFrom 0 0 l front)) (sym (join-units v ss (sheetOf sheet .targets) join two))
-        ∙ ap (flat linesOfShare) (shares-front 0 0 count us ms enough)
-        ∙ sym (lines-from us ms two)
+        ∙ ap (λ (l : List Unit). flat linesOfShare (sharesFrom simple 0 0 l front)) (sym (join-units v ss (sheetOf sheet .targets) join two))
+        ∙ ap (flat linesOfShare) (shares-front simple 0 0 count us ms enough)
+        ∙ sym (lines-from simple us ms two)
       where
-        enough : length (flat linesOfShare (sharesFrom 0 0 us ms)) ≤ count
-        enough = let a = ap length (lines-from us ms two) in omega (arith, a, h .1 .counted)
+        enough : length (flat linesOfShare (sharesFrom simple 0 0 us ms)) ≤ count
+        enough = let a = ap length (lines-from simple us ms two) in omega (arith, a, h .1 .counted)
 
     pub lines-over : sets m 0 (flat lineBytes (unitsReport natural file sheet by (marksAhead count m 0))) ≡ flat lineBytes (joinReport join file sheet by)
     lines-over =
@@ -245,12 +249,12 @@ module _ (file sheet : List ℕ) (o : Settings) (f : Fit) (p : Passes file sheet
     unfolding reportOf linesOf shares flat
     two-segments =
         by-order (length (sheetOf sheet .segments)) 2
-        (λ l. let e = counted ∙ ap (λ (q : Plan). length (linesOf (q .units) (q .marks))) (plan-few (voiceOf file) (sheetOf sheet) o l) in absurd (omega arith))
+        (λ l. let e = counted ∙ ap (λ (q : Plan). length (linesOf (isSimple (o .join)) (q .units) (q .marks))) (plan-few (voiceOf file) (sheetOf sheet) o l) in absurd (omega arith))
         (λ l. l)
 
     pub join-is : reportOf (voiceOf file) (sheetOf sheet) o ≡ joinReport (o .join) file sheet by
     unfolding reportOf
-    join-is = ap (λ (q : Plan). linesOf (q .units) (q .marks)) (plan-some (voiceOf file) (sheetOf sheet) o two-segments)
+    join-is = ap (λ (q : Plan). linesOf (isSimple (o .join)) (q .units) (q .marks)) (plan-some (voiceOf file) (sheetOf sheet) o two-segments)
 
     pub can-join : (n : ℕ) → n ≡ 16 * count → CanReportJoin (o .join) file sheet by count n
     can-join n e =

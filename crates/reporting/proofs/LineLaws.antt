@@ -1,5 +1,6 @@
 -- The loop that stores a unit's lines, one turn at a time.
 use mathlib.Core.Path.{_≡_, refl, sym, ap, subst, _∙_}
+use mathlib.Core.Bool.{Bool}
 use mathlib.Core.List.{List, [], _∷_, append-nil}
 use Prim.Native.Nat.{ℕ, suc, _+_, _-_, _*_, _/_, _^_, _≤_, _<_, max}
 use native.Mathlib.Omega.{arith}
@@ -7,16 +8,12 @@ use lib.ListN.{length, take, drop, length-drop}
 use lib.Seq.{sets, length-sets, drop-drop}
 use Rattle.base.specs.Buffers.{flat}
 use Rattle.base.specs.Bytes.{bytesOf, elements, u32At}
-use Rattle.base.proofs.BoundLaws.{Each}
 use Rattle.base.proofs.BufferLaws.{sets-append, length-flat}
 use Rattle.base.proofs.ByteLaws.{length-bytesOf}
 use Rattle.units.specs.declared.Unit.{Unit}
-use Rattle.units.specs.Units.{limit}
 use Rattle.marks.specs.Checking.{lastOf}
 use Rattle.marks.specs.Rising.{Rising}
-use Rattle.excitation.specs.Shares.{upToEnd}
-use Rattle.excitation.proofs.ShareLaws.{share-low}
-use Rattle.taking.proofs.UnitLaws.{each-first}
+use Rattle.excitation.specs.Shares.{shareCount}
 use Rattle.reporting.specs.declared.Reached.{Reached}
 use Rattle.reporting.specs.Report.{Line, linesOfMarks, lineBytes}
 use Rattle.reporting.specs.Reporting.{marksAhead, CanReport, Reports}
@@ -67,7 +64,6 @@ pub record Writing (u : Unit) (count end : ℕ) (w : Whole) (to : Reached) (line
   pub within : end ≤ count
   pub markLow : to .mark < 2 ^ 32
   pub rising : Rising (to .mark) (marksAhead count lines (to .taken))
-  pub low : Each (λ m. m ≤ u .«target_end») (take (end - to .taken) (marksAhead count lines (to .taken)))
 
 same-whole : {t t₁ m m₁ : ℕ} {a a₁ l l₁ : List ℕ} → t ≡ t₁ → m ≡ m₁ → a ≡ a₁ → l ≡ l₁
     → _≡_ {A = Whole} (record { taken = t; mark = m; ahead = a; lines = l }) (record { taken = t₁; mark = m₁; ahead = a₁; lines = l₁ })
@@ -92,10 +88,10 @@ module _ (u : Unit) (taken mark : ℕ) (lines : List ℕ) where
       ∙ ap (λ (k : ℕ). sets (sets lines (16 * taken) (lineBytes line)) k (flat lineBytes (linesOfMarks u m (take n ms)))) b)
 
 -- what is left behind in the end
-abbrev pub wholeOf : Unit → ℕ → Reached → List ℕ → Whole
-wholeOf u count at lines =
+abbrev pub wholeOf : Bool → Unit → ℕ → Reached → List ℕ → Whole
+wholeOf natural u count at lines =
     let ms = marksAhead count lines (at .taken) in
-    whole u (upToEnd u ms) (at .taken) (at .mark) ms lines
+    whole u (shareCount natural u ms) (at .taken) (at .mark) ms lines
 
 -- the marks at the end of the lines, lent by themselves
 pub lent-ahead : (count : ℕ) (lines : List ℕ) (taken : ℕ) → drop taken (elements 4 (drop (12 * count) lines)) ≡ marksAhead count lines taken
@@ -105,17 +101,20 @@ lent-ahead count lines taken =
     ∙ ap (drop taken) (sym (drop-elements lines (3 * count)))
     ∙ drop-drop taken (3 * count) (elements 4 lines)
 
-module _ (u : Unit) (count : ℕ) (at : Reached) (lines : List ℕ) (h : CanReport u count at lines) (marks : List ℕ) (is : marks ≡ drop (12 * count) lines)
-    (end : ℕ) (e : (end ≡ at .taken + upToEnd u (drop (at .taken) (elements 4 marks))) × (end ≤ max (at .taken) (length marks / 4))) where
+module _ (natural : Bool) (u : Unit) (count : ℕ) (at : Reached) (lines : List ℕ) (h : CanReport u count at lines) (marks : List ℕ) (is : marks ≡ drop (12 * count) lines)
+    (end : ℕ) (e : (end ≡ at .taken + shareCount natural u (drop (at .taken) (elements 4 marks))) × (end ≤ max (at .taken) (length marks / 4))) where
   abbrev ms : List ℕ
   ms = marksAhead count lines (at .taken)
 
-  ends-at : end ≡ at .taken + upToEnd u ms
-  ends-at = e .0 ∙ ap (λ (l : List ℕ). at .taken + upToEnd u (drop (at .taken) (elements 4 l))) is ∙ ap (λ (l : List ℕ). at .taken + upToEnd u l) (lent-ahead count lines (at .taken))
+  ends-at : end ≡ at .taken + shareCount natural u ms
+  ends-at =
+      e .0
+      ∙ ap (λ (l : List ℕ). at .taken + shareCount natural u (drop (at .taken) (elements 4 l))) is
+      ∙ ap (λ (l : List ℕ). at .taken + shareCount natural u l) (lent-ahead count lines (at .taken))
 
-  pub writing-first : Writing u count end (wholeOf u count at lines) at lines
+  pub writing-first : Writing u count end (wholeOf natural u count at lines) at lines
   writing-first =
-      let n : upToEnd u ms ≡ end - at .taken = let a = ends-at in omega arith in
+      let n : shareCount natural u ms ≡ end - at .taken = let a = ends-at in omega arith in
       let l = ap length is ∙ length-drop (12 * count) lines in
       let a = ends-at in
       record {
@@ -125,12 +124,11 @@ module _ (u : Unit) (count : ℕ) (at : Reached) (lines : List ℕ) (h : CanRepo
         within = omega (arith, e .1, h .within, h .long, l);
         markLow = h .markLow;
         rising = h .rising;
-        low = subst (λ (k : ℕ). Each (λ m. m ≤ u .«target_end») (take k ms)) n (share-low u ms);
       }
 
-module _ (u : Unit) (count end : ℕ) (at : Reached) (lines₀ : List ℕ) (to : Reached) (lines : List ℕ) (k : Writing u count end (wholeOf u count at lines₀) to lines) where
+module _ (natural : Bool) (u : Unit) (count end : ℕ) (at : Reached) (lines₀ : List ℕ) (to : Reached) (lines : List ℕ) (k : Writing u count end (wholeOf natural u count at lines₀) to lines) where
   -- all are reported
-  pub written : end ≤ to .taken → Reports u count at to lines₀ lines
+  pub written : end ≤ to .taken → Reports natural u count at to lines₀ lines
   written h =
       let z : end - to .taken ≡ 0 = omega arith in
       let e = sym (ap (λ (n : ℕ). whole u n (to .taken) (to .mark) (marksAhead count lines (to .taken)) lines) z ∙ whole-none u (to .taken) (to .mark) lines (marksAhead count lines (to .taken)))
@@ -161,14 +159,9 @@ module _ (u : Unit) (count end : ℕ) (at : Reached) (lines₀ : List ℕ) (to :
       pub not-below : to .mark ≤ m
       not-below = subst (Rising (to .mark)) left-is (k .rising) .0
 
-      lows : (m ≤ u .«target_end») × Each (λ m. m ≤ u .«target_end») (take (end - (to .taken + 1)) left)
-      lows =
-          each-first (subst (Each (λ m. m ≤ u .«target_end»))
-          (ap (λ (n : ℕ). take n (marksAhead count lines (to .taken))) one-less ∙ ap (take (suc (end - (to .taken + 1)))) left-is) (k .low))
-
-      pub goes-on : u .«target_end» ≤ limit → (lines₁ : List ℕ)
+      pub goes-on : m < 2 ^ 32 → (lines₁ : List ℕ)
           → lines₁ ≡ sets lines (16 * to .taken) (lineBytes (record { pair = u .pair; half = u .half; first = to .mark; size = m - to .mark }))
-          → Writing u count end (wholeOf u count at lines₀) (record { taken = to .taken + 1; mark = m }) lines₁
+          → Writing u count end (wholeOf natural u count at lines₀) (record { taken = to .taken + 1; mark = m }) lines₁
       goes-on h lines₁ e =
           let line : Line = record { pair = u .pair; half = u .half; first = to .mark; size = m - to .mark } in
           let n = end - (to .taken + 1) in
@@ -185,7 +178,6 @@ module _ (u : Unit) (count end : ℕ) (at : Reached) (lines₀ : List ℕ) (to :
             long = ap length e ∙ simp length-sets (k .long);
             reach = omega arith;
             within = k .within;
-            markLow = omega (arith, lows .0, h);
+            markLow = h;
             rising = subst (Rising m) (sym kept) (subst (Rising (to .mark)) left-is (k .rising) .1);
-            low = subst (λ (ms : List ℕ). Each (λ m. m ≤ u .«target_end») (take n ms)) (sym kept) (lows .1);
           }

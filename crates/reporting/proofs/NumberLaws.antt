@@ -1,4 +1,4 @@
--- The pairs and halves of a sheet's units: pairs from 1 on and below the number of segments, halves 1 and 2, which never fall.
+-- The pairs and halves of a sheet's units: pairs from 1 on and below the number of segments, halves 1 and 2, each unit's after the one before.
 use mathlib.Core.Path.{subst}
 use mathlib.Core.Bool.{Bool}
 use mathlib.Core.List.{List, [], _∷_}
@@ -21,10 +21,10 @@ pub record NumberOf (n : ℕ) (u : Unit) : Type 0 where
   pub half : 1 ≤ u .half
   pub second : u .half ≤ 2
 
--- pairs from 1 on and below n, halves 1 and 2; from the half p on, of all halves, they do not fall
+-- pairs from 1 on and below n, halves 1 and 2; of all halves, each is after the one before, and the first after p
 pub data Numbered (n : ℕ) : ℕ → List Unit → Type 0 where
   nil : {p : ℕ} → Numbered n p []
-  cons : {p : ℕ} {u : Unit} {us : List Unit} → NumberOf n u → p ≤ 2 * u .pair + u .half → Numbered n (2 * u .pair + u .half) us → Numbered n p (u ∷ us)
+  cons : {p : ℕ} {u : Unit} {us : List Unit} → NumberOf n u → p < 2 * u .pair + u .half → Numbered n (2 * u .pair + u .half) us → Numbered n p (u ∷ us)
 
 -- numbers of a unit that fit four bytes
 abbrev pub LowNumbers : Unit → Type 0
@@ -34,7 +34,7 @@ pub low-numbers : (n p : ℕ) (us : List Unit) → n ≤ 4096 → Numbered n p u
 low-numbers n p [] h nil = bounds.nil
 low-numbers n p (u ∷ us) h (cons a b k) = let l = a .low in bounds.cons {x = u} (omega arith, a .second) (low-numbers n (2 * u .pair + u .half) us h k)
 
-from-numbered : (v : Voice) (ss : List SegmentRead) (n p pair : ℕ) (left : SegmentRead) (rs : List SegmentRead) → 1 ≤ pair → p ≤ 2 * pair + 1 → pair + length rs ≤ n
+from-numbered : (v : Voice) (ss : List SegmentRead) (n p pair : ℕ) (left : SegmentRead) (rs : List SegmentRead) → 1 ≤ pair → p < 2 * pair + 1 → pair + length rs ≤ n
     → Numbered n p (unitsFrom v ss pair left rs)
 unfolding unitsFrom unitsOfPair
 from-numbered v ss n p pair left [] one h l = nil
@@ -43,7 +43,7 @@ from-numbered v ss n p pair left (right ∷ rs) one h l =
     let first : 1 ≤ 1 = omega arith in
     let second : 1 ≤ 2 = omega arith in
     let both : 2 ≤ 2 = omega arith in
-    let next : 2 * pair + 1 ≤ 2 * pair + 2 = omega arith in
+    let next : 2 * pair + 1 < 2 * pair + 2 = omega arith in
     cons (record { pair = one; low = low; half = first; second = second }) h
     (cons (record { pair = one; low = low; half = second; second = both }) next
     (from-numbered v ss n (2 * pair + 2) (suc pair) right rs (omega arith) (omega arith) (omega arith)))

@@ -24,10 +24,10 @@ use Rattle.units.specs.Selecting.{folded}
 use Rattle.marks.specs.Checking.{lastOf}
 use Rattle.marks.specs.Rising.{Rising}
 use Rattle.excitation.specs.Nearest.{paceOf}
-use Rattle.excitation.specs.Shares.{upToEnd, Share, sharesFrom, shares, sizesFrom}
+use Rattle.excitation.specs.Shares.{shareCount, Share, sharesFrom, shares, sizesFrom}
 use Rattle.excitation.specs.Taken.{Period, periodsOfShare, taken, sizesOf, excitationOf, total}
 use Rattle.excitation.proofs.ShareLaws.{front-rises, rest-rises, twoMarks, periods-sizes}
-use Rattle.excitation.proofs.SizedLaws.{Sized, taken-sized}
+use Rattle.excitation.proofs.SizedLaws.{Sized}
 use Rattle.lpc.specs.declared.ResynthType.{ResynthType}
 use Rattle.lpc.specs.declared.ResynthType.the-variants.{Fixed, Float as FloatType}
 use Rattle.lpc.specs.Filter.{Filter, Part, periodsFrom}
@@ -38,9 +38,9 @@ use Rattle.lpc.proofs.FilterLaws.{length-samples}
 use Rattle.call.specs.declared.JoinType.{JoinType}
 use Rattle.call.specs.declared.JoinType.the-variants.{None, Simple, ModifiedLpc}
 use Rattle.call.specs.declared.Settings.{Settings}
-use Rattle.call.specs.Call.{Plan, simplePlan, modifiedPlan, planBy, planOf, periodsTaken, periodsOf, samplesOfCall}
+use Rattle.call.specs.Call.{Plan, simplePlan, modifiedPlan, planBy, planOf, isSimple, periodsTaken, periodsOf, samplesOfCall}
 use Rattle.call.specs.Buffers.{checkRefusal}
-use Rattle.call.proofs.CallLaws.{twoSegments, partOf, soundOf, sound-is, taken-total}
+use Rattle.call.proofs.CallLaws.{twoSegments, periods-sized, partOf, soundOf, sound-is, taken-total}
 use Rattle.filling.proofs.JoinLaws.{open-rate, join-rises}
 use Rattle.reporting.specs.Report.{Line, linesOfMarks, linesOfShare, linesOf, reportOf, lineBytes, reportBytes, shortLines, refusalOfReport, linesLeft}
 use Rattle.reporting.specs.Claims.{pairs, lineSizes, FirstsFrom, halves, OfPair, HoldsOf, AnyFilter}
@@ -68,13 +68,13 @@ shares-sizes v (s ∷ ss) =
     pieces : {a b c d : List ℕ} → a ≡ b → c ≡ d → a ++ c ≡ b ++ d
     pieces p q = cc
 
-lines-sizes : (v : Voice) (us : List Unit) (ms : List ℕ) → lineSizes (linesOf us ms) ≡ sizesOf (taken v us ms)
+lines-sizes : (natural : Bool) (v : Voice) (us : List Unit) (ms : List ℕ) → lineSizes (linesOf natural us ms) ≡ sizesOf (taken natural v us ms)
 unfolding linesOf taken
-lines-sizes v us ms = shares-sizes v (shares us ms)
+lines-sizes natural v us ms = shares-sizes v (shares natural us ms)
 
-pub lines-many : (v : Voice) (us : List Unit) (ms : List ℕ) → length (linesOf us ms) ≡ length (taken v us ms)
+pub lines-many : (natural : Bool) (v : Voice) (us : List Unit) (ms : List ℕ) → length (linesOf natural us ms) ≡ length (taken natural v us ms)
 unfolding sizesOf
-lines-many v us ms = sym (length-map (linesOf us ms) (λ (l : Line). l .size)) ∙ ap length (lines-sizes v us ms) ∙ length-map (taken v us ms) (λ (p : Period). p .size)
+lines-many natural v us ms = sym (length-map (linesOf natural us ms) (λ (l : Line). l .size)) ∙ ap length (lines-sizes natural v us ms) ∙ length-map (taken natural v us ms) (λ (p : Period). p .size)
 
 -- ---- each first sample is the sum of the sizes before
 
@@ -86,20 +86,20 @@ marks-firsts u mark (m ∷ ms) rest r f =
     let e : mark + (m - mark) ≡ m = omega arith in
     (refl, subst (λ (n : ℕ). FirstsFrom n (linesOfMarks u m ms ++ rest)) (sym e) (marks-firsts u m ms rest (r .1) f))
 
-from-firsts : (endBefore mark : ℕ) (us : List Unit) (ms : List ℕ) → Rising mark ms → FirstsFrom mark (flat linesOfShare (sharesFrom endBefore mark us ms))
+from-firsts : (natural : Bool) (endBefore mark : ℕ) (us : List Unit) (ms : List ℕ) → Rising mark ms → FirstsFrom mark (flat linesOfShare (sharesFrom natural endBefore mark us ms))
 unfolding sharesFrom flat linesOfShare
-from-firsts endBefore mark [] ms r = tt
-from-firsts endBefore mark (u ∷ us) ms r =
-    let n = upToEnd u ms in
-    marks-firsts u mark (take n ms) _ (front-rises n mark ms r) (from-firsts (u .«target_end») (lastOf mark (take n ms)) us (drop n ms) (rest-rises n mark ms r))
+from-firsts natural endBefore mark [] ms r = tt
+from-firsts natural endBefore mark (u ∷ us) ms r =
+    let n = shareCount natural u ms in
+    marks-firsts u mark (take n ms) _ (front-rises n mark ms r) (from-firsts natural (u .«target_end») (lastOf mark (take n ms)) us (drop n ms) (rest-rises n mark ms r))
 
-lines-firsts : (us : List Unit) (ms : List ℕ) → Rising 0 ms → FirstsFrom 0 (linesOf us ms)
+lines-firsts : (natural : Bool) (us : List Unit) (ms : List ℕ) → Rising 0 ms → FirstsFrom 0 (linesOf natural us ms)
 unfolding linesOf shares flat
-lines-firsts us ms r = by (ltb (length ms) 2)
+lines-firsts natural us ms r = by (ltb (length ms) 2)
   where
-    by : (t : Bool) → FirstsFrom 0 (flat linesOfShare (twoMarks t (sharesFrom 0 0 us ms)))
+    by : (t : Bool) → FirstsFrom 0 (flat linesOfShare (twoMarks t (sharesFrom natural 0 0 us ms)))
     by true = tt
-    by false = from-firsts 0 0 us ms r
+    by false = from-firsts natural 0 0 us ms r
 
 -- ---- pairs and halves
 
@@ -119,22 +119,22 @@ marks-pairs n u mark (m ∷ ms) rest a k =
     let i = marks-pairs n u m ms rest a k in
     record { onward = (omega arith, i .onward); each = bounds.cons (record { pair = a .pair; low = a .low; half = a .half; second = a .second }) (i .each) }
 
-from-pairs : (n p endBefore mark : ℕ) (us : List Unit) (ms : List ℕ) → Numbered n p us → PairsFrom n p (flat linesOfShare (sharesFrom endBefore mark us ms))
+from-pairs : (natural : Bool) (n p endBefore mark : ℕ) (us : List Unit) (ms : List ℕ) → Numbered n p us → PairsFrom n p (flat linesOfShare (sharesFrom natural endBefore mark us ms))
 unfolding sharesFrom flat linesOfShare
-from-pairs n p endBefore mark [] ms nil = record { onward = tt; each = bounds.nil }
-from-pairs n p endBefore mark (u ∷ us) ms (cons a b k) =
-    let own = take (upToEnd u ms) ms in
-    let others = flat linesOfShare (sharesFrom (u .«target_end») (lastOf mark own) us (drop (upToEnd u ms) ms)) in
-    let i = marks-pairs n u mark own others a (from-pairs n (2 * u .pair + u .half) (u .«target_end») (lastOf mark own) us (drop (upToEnd u ms) ms) k) in
-    record { onward = rising-from p (2 * u .pair + u .half) (halves (linesOfMarks u mark own ++ others)) b (i .onward); each = i .each }
+from-pairs natural n p endBefore mark [] ms nil = record { onward = tt; each = bounds.nil }
+from-pairs natural n p endBefore mark (u ∷ us) ms (cons a b k) =
+    let own = take (shareCount natural u ms) ms in
+    let others = flat linesOfShare (sharesFrom natural (u .«target_end») (lastOf mark own) us (drop (shareCount natural u ms) ms)) in
+    let i = marks-pairs n u mark own others a (from-pairs natural n (2 * u .pair + u .half) (u .«target_end») (lastOf mark own) us (drop (shareCount natural u ms) ms) k) in
+    record { onward = rising-from p (2 * u .pair + u .half) (halves (linesOfMarks u mark own ++ others)) (omega arith) (i .onward); each = i .each }
 
-lines-pairs : (n : ℕ) (us : List Unit) (ms : List ℕ) → Numbered n 0 us → PairsFrom n 0 (linesOf us ms)
+lines-pairs : (natural : Bool) (n : ℕ) (us : List Unit) (ms : List ℕ) → Numbered n 0 us → PairsFrom n 0 (linesOf natural us ms)
 unfolding linesOf shares flat
-lines-pairs n us ms k = by (ltb (length ms) 2)
+lines-pairs natural n us ms k = by (ltb (length ms) 2)
   where
-    by : (t : Bool) → PairsFrom n 0 (flat linesOfShare (twoMarks t (sharesFrom 0 0 us ms)))
+    by : (t : Bool) → PairsFrom n 0 (flat linesOfShare (twoMarks t (sharesFrom natural 0 0 us ms)))
     by true = record { onward = tt; each = bounds.nil }
-    by false = from-pairs n 0 0 0 us ms k
+    by false = from-pairs natural n 0 0 0 us ms k
 
 -- pairs do not fall where the halves do not
 pairs-rise : (n p q : ℕ) (ls : List Line) → 2 * q + 1 ≤ p → Each (OfPair n) ls → Rising p (halves ls) → Rising q (pairs ls)
@@ -179,19 +179,19 @@ flat-length (x ∷ xs) = length-append x _ ∙ ap (λ (n : ℕ). length x + n) (
 
 module _ (v : Voice) (s : Sheet) (o : Settings) where
   periods-lengths : map length (periodsOf v s o) ≡ sizesOf (periodsTaken v s o)
-  unfolding soundOf periodsTaken
+  unfolding soundOf
   periods-lengths =
       ap (map length) (sound-is v s o)
       ∙ by-lengths (o .filter) (v .header .«coeff_min») (v .header .«coeff_range») (map partOf (periodsTaken v s o))
-      ∙ sized-lengths (v .header .order) (periodsTaken v s o) (taken-sized v (planOf v s o .units) (planOf v s o .marks))
+      ∙ sized-lengths (v .header .order) (periodsTaken v s o) (periods-sized v s o)
 
   pub as-many-lines : length (reportOf v s o) ≡ length (periodsTaken v s o)
   unfolding reportOf periodsTaken
-  as-many-lines = lines-many v (planOf v s o .units) (planOf v s o .marks)
+  as-many-lines = lines-many (isSimple (o .join)) v (planOf v s o .units) (planOf v s o .marks)
 
   pub report-sizes : lineSizes (reportOf v s o) ≡ sizesOf (periodsTaken v s o)
   unfolding reportOf periodsTaken
-  report-sizes = lines-sizes v (planOf v s o .units) (planOf v s o .marks)
+  report-sizes = lines-sizes (isSimple (o .join)) v (planOf v s o .units) (planOf v s o .marks)
 
   by-numbered : (j : JoinType) (ts : List Target) → Numbered (length (s .segments)) 0 (planBy j v (folded (o .fold) (s .segments)) ts .units)
   unfolding planBy simplePlan modifiedPlan
@@ -209,7 +209,7 @@ module _ (v : Voice) (s : Sheet) (o : Settings) where
 
   pub report-pairs : PairsFrom (length (s .segments)) 0 (reportOf v s o)
   unfolding reportOf
-  report-pairs = lines-pairs (length (s .segments)) (planOf v s o .units) (planOf v s o .marks) plan-numbered
+  report-pairs = lines-pairs (isSimple (o .join)) (length (s .segments)) (planOf v s o .units) (planOf v s o .marks) plan-numbered
 
   module _ (some : 1 ≤ v .header .rate) (low : v .header .rate ≤ 48000) where
     plan-rises : Rising 0 (planOf v s o .marks)
@@ -222,7 +222,7 @@ module _ (v : Voice) (s : Sheet) (o : Settings) where
 
     report-firsts : FirstsFrom 0 (reportOf v s o)
     unfolding reportOf
-    report-firsts = lines-firsts (planOf v s o .units) (planOf v s o .marks) plan-rises
+    report-firsts = lines-firsts (isSimple (o .join)) (planOf v s o .units) (planOf v s o .marks) plan-rises
 
     report-holds : HoldsOf v s o
     unfolding samplesOfCall
@@ -280,7 +280,9 @@ module _ (file sheet : List ℕ) (o o₁ : Settings) (join : o .join ≡ o₁ .j
 
   report-any : (v : Voice) (s : Sheet) → reportOf v s o ≡ reportOf v s o₁
   unfolding reportOf
-  report-any v s = ap (λ (p : Plan). linesOf (p .units) (p .marks)) (plan-any v s)
+  report-any v s =
+      ap (λ (p : Plan). linesOf (isSimple (o .join)) (p .units) (p .marks)) (plan-any v s)
+      ∙ ap (λ (j : JoinType). linesOf (isSimple j) (planOf v s o₁ .units) (planOf v s o₁ .marks)) join
 
   check-any : checkRefusal file sheet o ≡ checkRefusal file sheet o₁
   unfolding checkRefusal

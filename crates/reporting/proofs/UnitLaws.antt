@@ -20,20 +20,20 @@ use Rattle.units.specs.Units.{limit, endRefusal}
 use Rattle.units.specs.Walking.{unitsLeft, StartsUnits}
 use Rattle.marks.specs.Checking.{lastOf}
 use Rattle.marks.specs.Rising.{Rising}
-use Rattle.excitation.specs.Shares.{upToEnd, sharesFrom}
+use Rattle.excitation.specs.Shares.{shareCount, sharesFrom}
 use Rattle.excitation.proofs.ShareLaws.{rest-rises, share-most}
 use Rattle.taking.proofs.UnitLaws.{each-first}
 use Rattle.filling.specs.Filling.{joinUnit, joinUnits}
 use Rattle.filling.proofs.TakeLaws.{join-none, join-more, low-first}
 use Rattle.reporting.specs.declared.Reached.{Reached}
 use Rattle.reporting.specs.Report.{Line, linesOfMarks, linesOfShare, lineBytes}
-use Rattle.reporting.specs.Reporting.{marksAhead, ownMarks, CanReport, Reports, unitsReport, CanReportUnits}
+use Rattle.reporting.specs.Reporting.{marksAhead, unitMarks, CanReport, Reports, unitsReport, CanReportUnits}
 use Rattle.reporting.proofs.NumberLaws.{LowNumbers, low-numbers, units-numbered}
 use Rattle.reporting.proofs.LineLaws.{length-lines}
 
 -- the lines of units, by the marks that are left after one
-abbrev linesFrom : ℕ → ℕ → List Unit → List ℕ → List Line
-linesFrom end mark us ms = flat linesOfShare (sharesFrom end mark us ms)
+abbrev linesFrom : Bool → ℕ → ℕ → List Unit → List ℕ → List Line
+linesFrom natural end mark us ms = flat linesOfShare (sharesFrom natural end mark us ms)
 
 pub marks-many : (u : Unit) (mark : ℕ) (ms : List ℕ) → length (linesOfMarks u mark ms) ≡ length ms
 unfolding linesOfMarks
@@ -51,7 +51,7 @@ pub record UnitsReporting (v : Voice) (natural : Bool) (us : List Unit) (end cou
   pub within : at .taken ≤ count
   pub markLow : at .mark < 2 ^ 32
   pub rising : Rising (at .mark) (marksAhead count lines (at .taken))
-  pub filled : sets lines (16 * at .taken) (flat lineBytes (linesFrom end (at .mark) (joinUnits natural v end us) (marksAhead count lines (at .taken)))) ≡ all
+  pub filled : sets lines (16 * at .taken) (flat lineBytes (linesFrom natural end (at .mark) (joinUnits natural v end us) (marksAhead count lines (at .taken)))) ≡ all
 
 -- before the first unit
 pub reporting-first : (natural : Bool) (file index sheet : List ℕ) (by : Selection) (count : ℕ) (lines : List ℕ) (w : UnitWalk)
@@ -78,7 +78,7 @@ reporting-first natural file index sheet by count lines w h s =
 pub reporting-done : (v : Voice) (natural : Bool) (us : List Unit) (end count : ℕ) (at : Reached) (lines all : List ℕ) → UnitsReporting v natural us end count at lines all → us ≡ [] → lines ≡ all
 unfolding sharesFrom flat
 reporting-done v natural us end count at lines all k e =
-    ap (λ (l : List Unit). sets lines (16 * at .taken) (flat lineBytes (linesFrom end (at .mark) l (marksAhead count lines (at .taken)))))
+    ap (λ (l : List Unit). sets lines (16 * at .taken) (flat lineBytes (linesFrom natural end (at .mark) l (marksAhead count lines (at .taken)))))
     (sym (ap (joinUnits natural v end) e ∙ join-none natural v end))
     ∙ k .filled
 
@@ -101,8 +101,8 @@ module _ (v : Voice) (natural : Bool) (us : List Unit) (end count : ℕ) (at : R
   numbers-are : LowNumbers u × Each LowNumbers rest
   numbers-are = each-first (subst (Each LowNumbers) e (k .numbers))
 
-  pub can-report : CanReport x count at lines
-  can-report =
+  pub can-report : u .«first_period» ≤ u .«last_period» → CanReport x count at lines
+  can-report i =
       let n = numbers-are .0 in
       let pair : x .pair ≡ u .pair = ap (λ (y : Unit). y .pair) q in
       let half : x .half ≡ u .half = ap (λ (y : Unit). y .half) q in
@@ -112,28 +112,37 @@ module _ (v : Voice) (natural : Bool) (us : List Unit) (end count : ℕ) (at : R
         markLow = k .markLow;
         pairLow = omega (arith, pair, n .0);
         halfLow = omega (arith, half, n .1);
-        low = lows .0;
+        ordered = subst (λ (y : Unit). y .«first_period» ≤ y .«last_period») (sym q) i;
         rising = k .rising;
       }
 
+  -- the marks that the unit takes, and those that are left then
+  abbrev n : ℕ
+  n = shareCount natural x ms
+
+  abbrev own : List ℕ
+  own = unitMarks natural x ms
+
+  abbrev left : List ℕ
+  left = drop n ms
+
   -- the unit's own lines, then those of the units after it
-  filled-is : let own = flat lineBytes (linesOfMarks x (at .mark) (ownMarks x ms)) in
-      sets (sets lines (16 * at .taken) own) (16 * (at .taken + upToEnd x ms))
-      (flat lineBytes (linesFrom (x .«target_end») (lastOf (at .mark) (ownMarks x ms)) after (drop (upToEnd x ms) ms))) ≡ all
+  filled-is : sets (sets lines (16 * at .taken) (flat lineBytes (linesOfMarks x (at .mark) own))) (16 * (at .taken + n))
+      (flat lineBytes (linesFrom natural (x .«target_end») (lastOf (at .mark) own) after left)) ≡ all
   unfolding sharesFrom flat linesOfShare
   filled-is =
-      let own = linesOfMarks x (at .mark) (ownMarks x ms) in
-      let others = linesFrom (x .«target_end») (lastOf (at .mark) (ownMarks x ms)) after (drop (upToEnd x ms) ms) in
-      let n : length own ≡ upToEnd x ms = marks-many x (at .mark) (ownMarks x ms) ∙ length-take-le (upToEnd x ms) ms (share-most x ms) in
-      let l = length-lines own in
-      let place : 16 * (at .taken + upToEnd x ms) ≡ 16 * at .taken + length (flat lineBytes own) = omega arith in
-      ap (λ (i : ℕ). sets (sets lines (16 * at .taken) (flat lineBytes own)) i (flat lineBytes others)) place
-      ∙ sym (sets-append lines (16 * at .taken) (flat lineBytes own) (flat lineBytes others))
-      ∙ ap (sets lines (16 * at .taken)) (sym (flat-append lineBytes own others))
-      ∙ ap (λ (l : List Unit). sets lines (16 * at .taken) (flat lineBytes (linesFrom end (at .mark) l ms))) (sym join-is)
+      let its = linesOfMarks x (at .mark) own in
+      let others = linesFrom natural (x .«target_end») (lastOf (at .mark) own) after left in
+      let m : length its ≡ n = marks-many x (at .mark) own ∙ length-take-le n ms (share-most natural x ms) in
+      let l = length-lines its in
+      let place : 16 * (at .taken + n) ≡ 16 * at .taken + length (flat lineBytes its) = omega arith in
+      ap (λ (i : ℕ). sets (sets lines (16 * at .taken) (flat lineBytes its)) i (flat lineBytes others)) place
+      ∙ sym (sets-append lines (16 * at .taken) (flat lineBytes its) (flat lineBytes others))
+      ∙ ap (sets lines (16 * at .taken)) (sym (flat-append lineBytes its others))
+      ∙ ap (λ (l : List Unit). sets lines (16 * at .taken) (flat lineBytes (linesFrom natural end (at .mark) l ms))) (sym join-is)
       ∙ k .filled
 
-  pub reporting-next : (r : Reached) (lines₁ : List ℕ) → Reports x count at r lines lines₁ → UnitsReporting v natural rest (x .«target_end») count r lines₁ all
+  pub reporting-next : (r : Reached) (lines₁ : List ℕ) → Reports natural x count at r lines lines₁ → UnitsReporting v natural rest (x .«target_end») count r lines₁ all
   reporting-next r lines₁ t =
       record {
         low = lows .1;
@@ -150,12 +159,16 @@ module _ (v : Voice) (natural : Bool) (us : List Unit) (end count : ℕ) (at : R
       next-rising =
           let a = t .mark in
           let b = t .ahead in
-          rw (a, b) (rest-rises (upToEnd x ms) (at .mark) ms (k .rising))
+          rw (a, b) (rest-rises n (at .mark) ms (k .rising))
 
-      next-filled : sets lines₁ (16 * r .taken) (flat lineBytes (linesFrom (x .«target_end») (r .mark) after (marksAhead count lines₁ (r .taken)))) ≡ all
+      -- the lines of the units after it, from a line and a mark on, over some lines
+      over-lines : List ℕ → ℕ → ℕ → List ℕ → List ℕ
+      over-lines l taken mark ms = sets l (16 * taken) (flat lineBytes (linesFrom natural (x .«target_end») mark after ms))
+
+      next-filled : over-lines lines₁ (r .taken) (r .mark) (marksAhead count lines₁ (r .taken)) ≡ all
       next-filled =
-          ap (λ (l : List ℕ). sets lines₁ (16 * r .taken) (flat lineBytes (linesFrom (x .«target_end») (r .mark) after l))) (t .ahead)
-          ∙ ap (λ (m : ℕ). sets lines₁ (16 * r .taken) (flat lineBytes (linesFrom (x .«target_end») m after (drop (upToEnd x ms) ms)))) (t .mark)
-          ∙ ap (λ (n : ℕ). sets lines₁ (16 * n) (flat lineBytes (linesFrom (x .«target_end») (lastOf (at .mark) (ownMarks x ms)) after (drop (upToEnd x ms) ms)))) (t .taken)
-          ∙ ap (λ (l : List ℕ). sets l (16 * (at .taken + upToEnd x ms)) (flat lineBytes (linesFrom (x .«target_end») (lastOf (at .mark) (ownMarks x ms)) after (drop (upToEnd x ms) ms)))) (t .lines)
+          ap (over-lines lines₁ (r .taken) (r .mark)) (t .ahead)
+          ∙ ap (λ (m : ℕ). over-lines lines₁ (r .taken) m left) (t .mark)
+          ∙ ap (λ (m : ℕ). over-lines lines₁ m (lastOf (at .mark) own) left) (t .taken)
+          ∙ ap (λ (l : List ℕ). over-lines l (at .taken + n) (lastOf (at .mark) own) left) (t .lines)
           ∙ filled-is

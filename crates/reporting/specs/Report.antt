@@ -1,4 +1,5 @@
 -- Document 02, A2: 'A period report for the marking program'.
+use mathlib.Core.Bool.{Bool}
 use mathlib.Core.List.{List, [], _∷_}
 use mathlib.Core.Option.{Option, none, some}
 use Prim.Native.Nat.{ℕ, _-_, _*_}
@@ -15,7 +16,7 @@ use Rattle.sheet.specs.Sheet.{Sheet, sheetOf}
 use Rattle.units.specs.declared.Unit.{Unit}
 use Rattle.excitation.specs.Shares.{Share, shares}
 use Rattle.call.specs.declared.Settings.{Settings}
-use Rattle.call.specs.Call.{planOf}
+use Rattle.call.specs.Call.{planOf, isSimple}
 use Rattle.call.specs.Buffers.{checkRefusal}
 use Rattle.reporting.specs.declared.Reported.{Reported}
 use Rattle.reporting.specs.declared.Reported.the-variants.{Made, Refused}
@@ -40,12 +41,12 @@ unfoldable pub linesOfShare : Share → List Line
 linesOfShare s = linesOfMarks (s .unit) (s .mark) (s .marks)
 
 -- 'Lines come in period order'
-unfoldable pub linesOf : List Unit → List ℕ → List Line
-linesOf us ms = flat linesOfShare (shares us ms)
+unfoldable pub linesOf : Bool → List Unit → List ℕ → List Line
+linesOf natural us ms = flat linesOfShare (shares natural us ms)
 
 -- the report of a call
 unfoldable pub reportOf : Voice → Sheet → Settings → List Line
-reportOf v s o = linesOf (planOf v s o .units) (planOf v s o .marks)
+reportOf v s o = linesOf (isSimple (o .join)) (planOf v s o .units) (planOf v s o .marks)
 
 -- ---- in a lent buffer
 

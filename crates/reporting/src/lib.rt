@@ -52,12 +52,12 @@ fn put_line(pair: u32, half: u32, first: u32, size: u32, i: usize, lines: &mut [
 
 // Stores the lines of a unit, one for each mark of its share. The marks stand at the end of the lines,
 // four bytes each, and a line is stored over no mark that was not read.
-fn report_unit(unit: Unit, count: usize, at: Reached, lines: &mut [u8]) -> Reached
+fn report_unit(natural: bool, unit: Unit, count: usize, at: Reached, lines: &mut [u8]) -> Reached
     requires { ⌜ CanReport unit count at (now lines) ⌝ }
-    ensures { λ r. ⌜ Reports unit count at r (now (lines .entry)) (now (lines .exit)) ⌝ }
+    ensures { λ r. ⌜ Reports natural unit count at r (now (lines .entry)) (now (lines .exit)) ⌝ }
 {
     let from = 12 * count;
-    let end = taking::share_end(unit, &lines[from..], at.taken);
+    let end = taking::share_end(natural, unit, &lines[from..], at.taken);
     let mut to = at;
     while to.taken < end {
         let mark = base::bytes::u32_at(lines, 3 * count + to.taken);
@@ -107,7 +107,7 @@ fn report_units(
     while units::step::has_unit(walk) {
         let step = units::step::next_unit(file, index, sheet, by, &sampled, walk);
         let unit = filling::join_unit(file, voice, step.unit, natural, end);
-        at = report_unit(unit, count, at, lines);
+        at = report_unit(natural, unit, count, at, lines);
         end = unit.target_end;
         walk = step.walk;
     }

@@ -2,14 +2,14 @@
 use mathlib.Core.Path.{_≡_, refl, sym, ap, subst, _∙_}
 use mathlib.Core.Bool.{Bool, true, false}
 use mathlib.Core.List.{List, [], _∷_, _++_}
-use Prim.Native.Nat.{ℕ, suc, _+_, _-_, _*_, _/_, _≤_, _<_, max}
+use Prim.Native.Nat.{ℕ, suc, _+_, _-_, _*_, _/_, _^_, _≤_, _<_, min, max}
 use native.Mathlib.Nat.{mul-le-mul-left, mul-suc, le-refl}
 use native.Mathlib.Numerals.{add-one}
 use native.Mathlib.Omega.{arith}
 use lib.Dec.{ltb}
 use lib.IntN.{pos}
 use lib.Ieee.{Float, fin}
-use lib.ListN.{length, take, drop, drop-of-length-le}
+use lib.ListN.{length, take, drop, drop-of-length-le, length-drop}
 use lib.Seq.{sets, length-sets, drop-cons, drop-drop}
 use Rattle.base.specs.Choice.{pick}
 use Rattle.base.specs.Buffers.{over, flat, upto}
@@ -22,14 +22,14 @@ use Rattle.voice.specs.Voice.{Voice, voiceOf}
 use Rattle.voice.specs.Periods.{rowOf, decodeRoom}
 use Rattle.voice.specs.Opening.{IsOpen}
 use Rattle.units.specs.declared.Unit.{Unit}
-use Rattle.units.specs.Units.{limit}
+use Rattle.marks.specs.NaturalMarks.{periodCount}
 use Rattle.marks.specs.Checking.{lastOf}
 use Rattle.marks.specs.Rising.{Rising}
 use Rattle.excitation.specs.Source.{sourceOf, centred}
 use Rattle.excitation.specs.Nearest.{nearestPeriod, paceOf, placeAfterSize}
-use Rattle.excitation.specs.Shares.{upToEnd}
+use Rattle.excitation.specs.Shares.{upToEnd, ownPeriods, shareCount}
 use Rattle.excitation.specs.Taken.{Period, periodOf, periodsOfMarks, periodsOfShare, sizesOf, rowsOf, excitationOf, decodedOver}
-use Rattle.excitation.proofs.ShareLaws.{front-rises, end-none, end-above, end-takes, share-low, share-count}
+use Rattle.excitation.proofs.ShareLaws.{front-rises, end-none, end-above, end-takes, share-count}
 use Rattle.excitation.proofs.SizedLaws.{length-centred}
 use Rattle.taking.specs.declared.Progress.{Progress}
 use Rattle.taking.specs.Taking.{decodedOf, Held, unitShare, unitTaken, CanTake, Takes, CanTakePeriod, TakesPeriod}
@@ -51,6 +51,18 @@ module _ (marks : List ℕ) (i : ℕ) where
 
 -- ---- the end of a unit's share
 
+-- by whether the join is the simple one
+pub share-own : (natural : Bool) (u : Unit) (marks : List ℕ) (taken end : ℕ) → natural ≡ true → end ≡ taken + min (periodCount u) (length marks / 4 - taken)
+    → end ≡ taken + shareCount natural u (drop taken (elements 4 marks))
+unfolding shareCount ownPeriods elements
+share-own natural u marks taken end t e = e ∙ rw (t, length-drop, length-upto) refl
+
+pub share-up-to : (natural : Bool) (u : Unit) (marks : List ℕ) (taken end : ℕ) → natural ≡ false → end ≡ taken + upToEnd u (drop taken (elements 4 marks))
+    → end ≡ taken + shareCount natural u (drop taken (elements 4 marks))
+unfolding shareCount
+share-up-to natural u marks taken end t e = rw t e
+
+-- the marks up to its target end
 module _ (u : Unit) (marks : List ℕ) (taken end : ℕ) (e : taken + upToEnd u (drop taken (elements 4 marks)) ≡ end + upToEnd u (drop end (elements 4 marks))) where
   -- no mark is left
   pub share-whole : length marks / 4 ≤ end → end ≡ taken + upToEnd u (drop taken (elements 4 marks))
@@ -157,7 +169,6 @@ pub record Going (file : List ℕ) (d : DiphoneVoice) (u : Unit) (marks : List �
   pub all : wholeFrom file d u pace to place (lent marks end (to .taken)) s r e b ≡ w
   pub within : end ≤ max (to .taken) (length marks / 4)
   pub rising : Rising (to .mark) (lent marks end (to .taken))
-  pub low : Each (λ m. m ≤ u .«target_end») (lent marks end (to .taken))
   pub held : Held (voiceOf file) b (to .front)
   pub sizesLong : length s ≡ n
   pub rowsLong : length r ≡ k
@@ -165,9 +176,9 @@ pub record Going (file : List ℕ) (d : DiphoneVoice) (u : Unit) (marks : List �
   pub decodedLong : length b ≡ o
 
 -- what a call leaves behind
-abbrev pub wholeOf : List ℕ → DiphoneVoice → Unit → ℕ → List ℕ → Progress → List ℕ → List ℕ → List ℕ → List ℕ → Whole
-wholeOf file d u endBefore marks at s r e b =
-    whole (voiceOf file) (d .header .order) (at .taken) (at .mark) (unitTaken (voiceOf file) u endBefore marks at) (lastOf (at .mark) (unitShare u endBefore marks at .marks)) s r e b
+abbrev pub wholeOf : Bool → List ℕ → DiphoneVoice → Unit → ℕ → List ℕ → Progress → List ℕ → List ℕ → List ℕ → List ℕ → Whole
+wholeOf natural file d u endBefore marks at s r e b =
+    whole (voiceOf file) (d .header .order) (at .taken) (at .mark) (unitTaken natural (voiceOf file) u endBefore marks at) (lastOf (at .mark) (unitShare natural u endBefore marks at .marks)) s r e b
 
 -- the room for it
 pub record Room (order : ℕ) (w : Whole) (n k l : ℕ) : Type 0 where
@@ -204,14 +215,8 @@ module _ (file : List ℕ) (d : DiphoneVoice) (u : Unit) (marks : List ℕ) (pac
     risen : (to .mark ≤ m) × Rising m after
     risen = subst (Rising (to .mark)) coming (g .rising)
 
-    lows : (m ≤ u .«target_end») × Each (λ m. m ≤ u .«target_end») after
-    lows = each-first (subst (Each (λ m. m ≤ u .«target_end»)) coming (g .low))
-
     pub mark-above : to .mark ≤ m
     mark-above = risen .0
-
-    pub mark-low : m ≤ u .«target_end»
-    mark-low = lows .0
 
     abbrev rest : List Period
     rest = periodsOfMarks v u pace (placeAfterSize place pace (m - to .mark)) m after
@@ -221,14 +226,13 @@ module _ (file : List ℕ) (d : DiphoneVoice) (u : Unit) (marks : List ℕ) (pac
     more = ap (λ (ms : List ℕ). wholeFrom file d u pace to place ms s r e b) (sym coming) ∙ g .all
 
     -- the next period fits the buffers
-    pub can-take : (p : ℕ) → IsOpen file d → p < d .header .frames → u .«target_end» ≤ limit → decodeRoom v ≤ o → Room order w n k l
+    pub can-take : (p : ℕ) → IsOpen file d → p < d .header .frames → m < 2 ^ 32 → decodeRoom v ≤ o → Room order w n k l
         → CanTakePeriod file d p (m - to .mark) to (length s) (length r) (length e) b
     can-take p opened inside low room q =
         let count : to .taken + suc (length rest) ≡ w .count = ap (λ (w : Whole). w .count) more in
         let last : lastOf m after ≡ w .mark = ap (λ (w : Whole). w .mark) more in
         let top = last-above m after (risen .1) in
         let above = risen .0 in
-        let below = lows .0 in
         let a = g .sizesLong in
         let c = g .rowsLong in
         let f = g .excitationLong in
@@ -266,7 +270,6 @@ module _ (file : List ℕ) (d : DiphoneVoice) (u : Unit) (marks : List ℕ) (pac
           all = ap (λ (x : Float). whole v order (to .taken + 1) m (periodsOfMarks v u pace x m after) (lastOf m after) s₁ r₁ e₁ b₁) placed ∙ w₁;
           within = omega arith;
           rising = risen .1;
-          low = lows .1;
           held = t .samples .held;
           sizesLong = ap length (t .sizes) ∙ simp length-sets (g .sizesLong);
           rowsLong = ap length (t .rows) ∙ simp length-sets (g .rowsLong);
@@ -276,21 +279,20 @@ module _ (file : List ℕ) (d : DiphoneVoice) (u : Unit) (marks : List ℕ) (pac
 
 -- ---- the first turn, and the last
 
-pub going-first : (file : List ℕ) (d : DiphoneVoice) (u : Unit) (endBefore : ℕ) (marks : List ℕ) (at : Progress) (s r e b : List ℕ) (pace : Float) (end : ℕ)
-    → CanTake file d u endBefore marks at (length s) (length r) (length e) b → pace ≡ paceOf (voiceOf file) u endBefore
-    → end ≡ at .taken + upToEnd u (drop (at .taken) (elements 4 marks)) → end ≤ max (at .taken) (length marks / 4)
-    → Going file d u marks pace end (wholeOf file d u endBefore marks at s r e b) (length s) (length r) (length e) (length b) s r e b at (fin false 0 (pos 0))
+pub going-first : (natural : Bool) (file : List ℕ) (d : DiphoneVoice) (u : Unit) (endBefore : ℕ) (marks : List ℕ) (at : Progress) (s r e b : List ℕ) (pace : Float) (end : ℕ)
+    → CanTake natural file d u endBefore marks at (length s) (length r) (length e) b → pace ≡ paceOf (voiceOf file) u endBefore
+    → end ≡ at .taken + shareCount natural u (drop (at .taken) (elements 4 marks)) → end ≤ max (at .taken) (length marks / 4)
+    → Going file d u marks pace end (wholeOf natural file d u endBefore marks at s r e b) (length s) (length r) (length e) (length b) s r e b at (fin false 0 (pos 0))
 unfolding periodsOfShare
-going-first file d u endBefore marks at s r e b pace end h q x y =
+going-first natural file d u endBefore marks at s r e b pace end h q x y =
     let ms = drop (at .taken) (elements 4 marks) in
-    let own : lent marks end (at .taken) ≡ take (upToEnd u ms) ms = let z : end - at .taken ≡ upToEnd u ms = omega arith in rw z in
+    let own : lent marks end (at .taken) ≡ take (shareCount natural u ms) ms = let z : end - at .taken ≡ shareCount natural u ms = omega arith in rw z in
     record {
       all =
           ap (λ (l : List ℕ). wholeFrom file d u pace at (fin false 0 (pos 0)) l s r e b) own
-          ∙ ap (λ (x : Float). wholeFrom file d u x at (fin false 0 (pos 0)) (take (upToEnd u ms) ms) s r e b) q;
+          ∙ ap (λ (x : Float). wholeFrom file d u x at (fin false 0 (pos 0)) (take (shareCount natural u ms) ms) s r e b) q;
       within = y;
-      rising = subst (Rising (at .mark)) (sym own) (front-rises (upToEnd u ms) (at .mark) ms (h .rising));
-      low = subst (Each (λ m. m ≤ u .«target_end»)) (sym own) (share-low u ms);
+      rising = subst (Rising (at .mark)) (sym own) (front-rises (shareCount natural u ms) (at .mark) ms (h .rising));
       held = h .held;
       sizesLong = refl;
       rowsLong = refl;
@@ -298,24 +300,24 @@ going-first file d u endBefore marks at s r e b pace end h q x y =
       decodedLong = refl;
     }
 
-pub room-for : (file : List ℕ) (d : DiphoneVoice) (u : Unit) (endBefore : ℕ) (marks : List ℕ) (at : Progress) (s r e b : List ℕ)
-    → CanTake file d u endBefore marks at (length s) (length r) (length e) b → Room (d .header .order) (wholeOf file d u endBefore marks at s r e b) (length s) (length r) (length e)
-room-for file d u endBefore marks at s r e b h = record { sizes = h .sizesRoom; rows = h .rowsRoom; excitation = h .excitationRoom }
+pub room-for : (natural : Bool) (file : List ℕ) (d : DiphoneVoice) (u : Unit) (endBefore : ℕ) (marks : List ℕ) (at : Progress) (s r e b : List ℕ)
+    → CanTake natural file d u endBefore marks at (length s) (length r) (length e) b → Room (d .header .order) (wholeOf natural file d u endBefore marks at s r e b) (length s) (length r) (length e)
+room-for natural file d u endBefore marks at s r e b h = record { sizes = h .sizesRoom; rows = h .rowsRoom; excitation = h .excitationRoom }
 
-pub took : (file : List ℕ) (d : DiphoneVoice) (u : Unit) (endBefore : ℕ) (marks : List ℕ) (at to : Progress) (s₀ s r₀ r e₀ e b₀ b : List ℕ)
-    → whole (voiceOf file) (d .header .order) (to .taken) (to .mark) [] (to .mark) s r e b ≡ wholeOf file d u endBefore marks at s₀ r₀ e₀ b₀
-    → Held (voiceOf file) b (to .front) → Takes file d u endBefore marks at to s₀ s r₀ r e₀ e b₀ b
+pub took : (natural : Bool) (file : List ℕ) (d : DiphoneVoice) (u : Unit) (endBefore : ℕ) (marks : List ℕ) (at to : Progress) (s₀ s r₀ r e₀ e b₀ b : List ℕ)
+    → whole (voiceOf file) (d .header .order) (to .taken) (to .mark) [] (to .mark) s r e b ≡ wholeOf natural file d u endBefore marks at s₀ r₀ e₀ b₀
+    → Held (voiceOf file) b (to .front) → Takes natural file d u endBefore marks at to s₀ s r₀ r e₀ e b₀ b
 unfolding flat sizesOf rowsOf excitationOf decodedOver
-took file d u endBefore marks at to s₀ s r₀ r e₀ e b₀ b q held =
+took natural file d u endBefore marks at to s₀ s r₀ r e₀ e b₀ b q held =
     let n : to .taken ≡ to .taken + 0 = omega arith in
     let ms = drop (at .taken) (elements 4 marks) in
-    let taken : to .taken ≡ at .taken + length (unitTaken (voiceOf file) u endBefore marks at) = n ∙ ap (λ (w : Whole). w .count) q in
+    let taken : to .taken ≡ at .taken + length (unitTaken natural (voiceOf file) u endBefore marks at) = n ∙ ap (λ (w : Whole). w .count) q in
     record {
       taken = taken;
       mark = ap (λ (w : Whole). w .mark) q;
       left =
-          ap (λ (i : ℕ). drop i (elements 4 marks)) (taken ∙ ap (λ (n : ℕ). at .taken + n) (share-count (voiceOf file) endBefore (at .mark) u ms))
-          ∙ sym (drop-drop (upToEnd u ms) (at .taken) (elements 4 marks));
+          ap (λ (i : ℕ). drop i (elements 4 marks)) (taken ∙ ap (λ (n : ℕ). at .taken + n) (share-count natural (voiceOf file) endBefore (at .mark) u ms))
+          ∙ sym (drop-drop (shareCount natural u ms) (at .taken) (elements 4 marks));
       sizes = ap (λ (w : Whole). w .sizes) q;
       rows = ap (λ (w : Whole). w .rows) q;
       excitation = ap (λ (w : Whole). w .excitation) q;

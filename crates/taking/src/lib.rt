@@ -1,7 +1,7 @@
 // What a unit takes: for each of its marks a pitch period, with its size, its row and its window of
 // the excitation.
 ghost use mathlib.Core.Path.{_≡_};
-ghost use Prim.Native.Nat.{max, _+_, _*_, _/_, _≤_, _<_};
+ghost use Prim.Native.Nat.{min, max, _+_, _-_, _*_, _/_, _≤_, _<_};
 ghost use lib.ListN.{length, take, drop};
 ghost use lib.Seq.{sets};
 ghost use Rattle.base.specs.Buffers.{over, flat};
@@ -10,8 +10,9 @@ ghost use Rattle.voice.specs.Header.{codecOf};
 ghost use Rattle.voice.specs.Voice.{voiceOf};
 ghost use Rattle.voice.specs.Periods.{rowOf, decodeRoom};
 ghost use Rattle.voice.specs.Opening.{IsOpen};
+ghost use Rattle.marks.specs.NaturalMarks.{periodCount};
 ghost use Rattle.excitation.specs.Source.{sourceOf, centred};
-ghost use Rattle.excitation.specs.Shares.{upToEnd};
+ghost use Rattle.excitation.specs.Shares.{upToEnd, shareCount};
 ghost use Rattle.taking.specs.Taking.{decodedOf, HasDecoded, Held, CanTakeSamples, TakesSamples, CanTakePeriod, TakesPeriod, CanTake, Takes};
 use units::Unit;
 use voice::Codec;
@@ -166,9 +167,8 @@ fn take_period(
     take_samples(file, d, p, size, at, excitation, decoded)
 }
 
-// The end of a unit's share of the marks, of which so many are taken: it takes those that are left
-// and not above its target end.
-pub fn share_end(unit: Unit, marks: &[u8], taken: usize) -> usize
+// Of marks of which so many are taken: the end of those that are not above the unit's target end.
+fn marks_up_to_end(unit: Unit, marks: &[u8], taken: usize) -> usize
     ensures { λ r.
         ⌜
         (r ≡ taken + upToEnd unit (drop taken (elements 4 (now (marks .entry))))) ×
@@ -186,8 +186,41 @@ pub fn share_end(unit: Unit, marks: &[u8], taken: usize) -> usize
     end
 }
 
+// Of `count` marks of which so many are taken: the end of the unit's own, one for each of its periods.
+fn own_end(unit: Unit, count: usize, taken: usize) -> usize
+    requires { ⌜ unit .«first_period» ≤ unit .«last_period» ⌝ }
+    ensures { λ r.
+        ⌜ (r ≡ taken + min (periodCount unit) (count - taken)) × (r ≤ max taken count) ⌝ }
+{
+    if count <= taken {
+        return taken;
+    }
+    let own = unit.last_period - unit.first_period;
+    if own < count - taken {
+        return taken + own;
+    }
+    count
+}
+
+// The end of a unit's share of the marks, of which so many are taken: in the simple join it takes as
+// many as it has periods, else those that are not above its target end.
+pub fn share_end(natural: bool, unit: Unit, marks: &[u8], taken: usize) -> usize
+    requires { ⌜ unit .«first_period» ≤ unit .«last_period» ⌝ }
+    ensures { λ r.
+        ⌜
+        (r ≡ taken + shareCount natural unit (drop taken (elements 4 (now (marks .entry))))) ×
+        (r ≤ max taken (length (now (marks .entry)) / 4))
+        ⌝ }
+{
+    if natural {
+        return own_end(unit, marks.len() / 4, taken);
+    }
+    marks_up_to_end(unit, marks, taken)
+}
+
 // Takes the unit's share of the marks, a period for each.
 pub fn take_unit(
+    natural: bool,
     file: &[u8],
     d: DiphoneVoice,
     unit: Unit,
@@ -200,20 +233,20 @@ pub fn take_unit(
     decoded: &mut [u8],
 ) -> Progress
     requires { ⌜
-        CanTake
+        CanTake natural
         (now file) d unit «end_before» (now marks) at
         (length (now sizes)) (length (now rows)) (length (now excitation)) (now decoded)
         ⌝ }
     ensures { λ r.
         ⌜
-        Takes
+        Takes natural
         (now (file .entry)) d unit «end_before» (now (marks .entry)) at r
         (now (sizes .entry)) (now (sizes .exit)) (now (rows .entry)) (now (rows .exit))
         (now (excitation .entry)) (now (excitation .exit)) (now (decoded .entry)) (now (decoded .exit))
         ⌝ }
 {
     let pace = excitation::pace_of(file, d, unit, end_before);
-    let end = share_end(unit, marks, at.taken);
+    let end = share_end(natural, unit, marks, at.taken);
     let mut to = at;
     let mut place = 0.0;
     while to.taken < end {

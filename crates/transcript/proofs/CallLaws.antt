@@ -23,7 +23,7 @@ use Rattle.voice.specs.Opening.{openingRefusal}
 use Rattle.voice.proofs.OpeningLaws.{opens, passed}
 use Rattle.sheet.specs.Sheet.{Sheet, sheetOf}
 use Rattle.excitation.specs.Taken.{Period, sizesOf, rowsOf, excitationOf}
-use Rattle.excitation.proofs.SizedLaws.{taken-sized, rows-length}
+use Rattle.excitation.proofs.SizedLaws.{rows-length}
 use Rattle.lpc.specs.declared.FilterState.{FilterState}
 use Rattle.lpc.specs.State.{freshState}
 use Rattle.call.specs.declared.Settings.{Settings}
@@ -31,10 +31,11 @@ use Rattle.call.specs.declared.Summary.{Summary}
 use Rattle.call.specs.declared.Called.{Called}
 use Rattle.call.specs.declared.Called.the-variants.{Spoken, Refused}
 use Rattle.call.specs.declared.Planned.{Planned}
-use Rattle.call.specs.Call.{planOf, periodsTaken, periodsOf}
+use Rattle.call.specs.Call.{periodsTaken, periodsOf}
 use Rattle.call.specs.Buffers.{Buffers, filled, needOf, holds, fits, checkRefusal, callRefusal, summaryOf, freshOf, answerBy, plannedOf, buffersAfter}
 use Rattle.planning.proofs.PlanLaws.{spoken-buffers}
 use Rattle.call.specs.SpokenCall.{SpokenCall, bytesAfter}
+use Rattle.call.proofs.CallLaws.{periods-sized}
 use Rattle.call.proofs.LentLaws.{lentTaken, lent-filled}
 use Rattle.lines.specs.Lines.{refused}
 use Rattle.transcript.specs.CallText.{spokenText, callText, periodsFor, Fresh, front, Spoke, spokenBy}
@@ -87,8 +88,7 @@ module _ (file sheet : List ℕ) (settings : Settings) (b : Buffers) (bytes : By
   sizes-count = length-map ps (λ (p : Period). p .size)
 
   rows-count : length (rowsOf ps) ≡ length (sizesOf ps) * v .header .order
-  unfolding periodsTaken
-  rows-count = rows-length (v .header .order) ps (taken-sized v (planOf v s settings .units) (planOf v s settings .marks))
+  rows-count = rows-length (v .header .order) ps (periods-sized v s settings)
 
   abbrev after : Buffers
   after = buffersAfter file sheet settings b

@@ -33,7 +33,7 @@ use Rattle.marks.specs.NaturalMarks.{marksOfPeriods, naturalMarks, naturalUnits
 use Rattle.marks.specs.Checking.{lastOf, upTo}
 use Rattle.excitation.specs.Source.{decodedBy, sourceBy, sourceOf, centred}
 use Rattle.excitation.specs.Nearest.{nearestFrom, nearestPeriod, paceOf, placeAfterSize}
-use Rattle.excitation.specs.Shares.{upToEnd, sharesFrom, shares}
+use Rattle.excitation.specs.Shares.{upToEnd, ownPeriods, shareCount, sharesFrom, shares}
 use Rattle.excitation.specs.Taken.{periodOf, periodsOfMarks, periodsOfShare, taken, sizesOf, rowsOf, excitationOf, decodedOver}
 use Rattle.lpc.specs.Filter.{cut, outputs, samples, periodsFrom}
 use Rattle.lpc.specs.Fixed.{scaledBy, rowValue, fixedSum, divided, fixedNext, fixedFilter}
@@ -82,7 +82,7 @@ unfolding ofBits add sub mul div lt le ne ofInt toUnsigned toSigned every firstF
     sheetFrom sheetRefusal sheetOf foldName folded nameOf inCluster firstTried entryOf samplesAt midway unitsOfPair unitsFrom
     unitsAll endRefusal f0At goesOn nextTime markAt climb slopeOf climbTo marksFrom pitchMarks marksOfPeriods naturalMarks
     naturalUnits markRefusal decodedBy sourceBy sourceOf centred nearestFrom nearestPeriod paceOf placeAfterSize periodOf lastOf
-    upTo upToEnd sharesFrom shares periodsOfMarks periodsOfShare
+    upTo upToEnd ownPeriods shareCount sharesFrom shares periodsOfMarks periodsOfShare
     taken cut outputs samples periodsFrom scaledBy rowValue fixedSum divided fixedNext fixedFilter floatValue floatSum
     floatNext floatFilter tap ringAfter ringSamples freshState advanced spoken periodsBy simplePlan modifiedPlan planBy planOf
     periodsTaken sizesOf rowsOf excitationOf periodsOf decodedOver filled decodeRoom needOf holds fits checkRefusal callRefusal

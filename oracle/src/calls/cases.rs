@@ -5,7 +5,7 @@ use crate::call::{Filter, Join, Settings};
 use crate::expected::{given, Given, SHORT_BUFFER};
 use crate::gen::damaged_calls;
 use crate::gen::voices::{self, Extent};
-use crate::gen::{damaged_sheets, damaged_voices, sheets, small};
+use crate::gen::{damaged_sheets, damaged_voices, empty_heads, sheets, small};
 use crate::rng::Rng;
 use crate::sheet::write;
 use crate::statements::drafts::{draft, Draft, Limits};
@@ -29,8 +29,9 @@ const PAIRS: usize = 120;
 /// Segments of long sheets. The place of every 16th is kept for followers.
 const LONG: [usize; 9] = [15, 16, 17, 18, 33, 257, 1_000, 4_095, 4_096];
 
-/// Voices with periods without samples at the heads of units.
-const EMPTY_HEADS: u64 = 60;
+/// Voices with periods without samples at the heads of units, ten of each
+/// order.
+const EMPTY_HEADS: u64 = 330;
 
 /// Draws calls by their number.
 pub struct Generator {
@@ -216,17 +217,18 @@ pub fn long(seed: u64, mut check: impl FnMut(&mut Rng, Call)) {
     }
 }
 
-/// Calls in which periods without samples stand at the heads of units, three of
-/// four in the simple join: an earlier unit takes them there.
+/// Calls in which periods without samples stand at the heads of units, four of
+/// five in the simple join.
 pub fn empty_heads(seed: u64, mut check: impl FnMut(&mut Rng, Call)) {
     for case in 0..EMPTY_HEADS {
         let rng = &mut Rng::for_case(seed, 9_600_000 + case);
         let words = voices::vocabulary(rng);
-        let covering = rng.once_in(2);
-        let spec = voices::voice(rng, &words, Extent::Any, covering);
-        let spec = voices::with_empty_heads(rng, &spec);
+        let spec = empty_heads::voice(rng, &words, case);
         let sheet = sheets::sheet(rng, &words, spec.header.rate);
-        let join = if case % 4 == 3 { Join::Modified } else { Join::Simple };
+        let join = match case % 5 {
+            4 => Join::Modified,
+            _ => Join::Simple,
+        };
         let call = Call {
             about: format!("empty heads {case}"),
             voice: voices::file(&spec.sections()),

@@ -3,29 +3,47 @@
 use super::machine::{DONE, IMPOSSIBLE, SHORT_SLICE};
 use crate::call::{Filter, Settings, JOINS};
 use crate::expected::{Spoken, SHORT_BUFFER};
-use crate::period_report::Taking;
 use crate::report::Report;
+use crate::taking::Tally;
 use crate::voicefile::Voice;
 
 /// By a number of document 01's table; 0 counts what is not refused.
 type ByNumber = [u64; SHORT_BUFFER + 1];
 
-/// What is counted of the taking of marks.
-const TAKINGS: [&str; 5] = [
-    "marks taken before their own unit, simple join",
-    "those taken by another pair",
-    "marks taken by a unit without periods",
+/// The settings and the sorts of voices; the last is of `sts.ressize`.
+const HALVES: [[&str; 2]; 4] = [
+    ["fixed", "float"],
+    ["fold off", "on"],
+    ["mu-law", "G.721"],
+    ["without sizes", "with"],
+];
+
+/// What is counted of the taking of marks. The list is that of the simple join.
+const TALLIES: [&str; 10] = [
+    "periods on the list",
+    "those behind another of their unit",
+    "units that are all on the list",
+    "report lines that are not the Rust's",
+    "those with another pair",
+    "those that the Rust gives to a unit two or more before",
+    "rows that are not the Rust's",
+    "marks taken by a unit without periods, modified join",
     "units without a mark",
     "marks left over",
 ];
 
-fn counted(taking: &Taking) -> [usize; TAKINGS.len()] {
+fn counted(tally: &Tally) -> [usize; TALLIES.len()] {
     [
-        taking.early,
-        taking.early_pairs,
-        taking.by_empty,
-        taking.idle,
-        taking.left_over,
+        tally.listed,
+        tally.in_runs,
+        tally.whole,
+        tally.lines,
+        tally.pairs,
+        tally.far,
+        tally.rows,
+        tally.by_empty,
+        tally.idle,
+        tally.left_over,
     ]
 }
 
@@ -33,9 +51,9 @@ fn counted(taking: &Taking) -> [usize; TAKINGS.len()] {
 pub struct Counts {
     accepted: u64,
     joins: [u64; 3],
-    /// Fixed and float; fold off and on; mu-law and G.721; without and with
-    /// `sts.ressize`.
-    halves: [[u64; 2]; 4],
+    halves: [[u64; 2]; HALVES.len()],
+    /// The same of those with rows that are not the Rust's.
+    changed: [[u64; 2]; HALVES.len()],
     /// Those of the accepted calls that have a period.
     speaking: u64,
     refused: ByNumber,
@@ -47,7 +65,7 @@ pub struct Counts {
     lines: u64,
     /// How the marks of the accepted calls were taken: calls, and how often in
     /// all of them.
-    takings: [[u64; 2]; TAKINGS.len()],
+    tallies: [[u64; 2]; TALLIES.len()],
     marks: u64,
     pub periods: u64,
     pub samples: u64,
@@ -68,8 +86,10 @@ impl Counts {
         self.joins[join.unwrap_or(0)] += 1;
         let is_float = settings.filter == Filter::Float;
         let second = [is_float, settings.fold, voice.is_g721(), voice.has_sizes()];
-        for (counts, second) in self.halves.iter_mut().zip(second) {
-            counts[usize::from(second)] += 1;
+        let is_changed = spoken.tally.rows > 0;
+        for (i, second) in second.map(usize::from).into_iter().enumerate() {
+            self.halves[i][second] += 1;
+            self.changed[i][second] += u64::from(is_changed);
         }
     }
 
@@ -93,9 +113,8 @@ impl Counts {
     }
 
     /// How the marks of an accepted call were taken.
-    pub fn taking(&mut self, spoken: &Spoken) {
-        let counted = counted(&spoken.report.taking);
-        for (sums, count) in self.takings.iter_mut().zip(counted) {
+    pub fn tally(&mut self, tally: &Tally) {
+        for (sums, count) in self.tallies.iter_mut().zip(counted(tally)) {
             sums[0] += u64::from(count > 0);
             sums[1] += count as u64;
         }
@@ -123,9 +142,16 @@ impl Counts {
         report.check(ends.iter().all(|count| *count > 0), || {
             format!("13, done, 14, 15 were reached {ends:?} times")
         });
-        for (what, [calls, _]) in TAKINGS.iter().zip(self.takings) {
+        for (what, [calls, _]) in TALLIES.iter().zip(self.tallies) {
             report.check(calls > 0, || format!("{what}: not reached"));
         }
+        let changed = self.changed.as_flattened();
+        report.check(changed.iter().all(|count| *count > 0), || {
+            format!(
+                "calls with rows that are not the Rust's: {}",
+                halves(&self.changed)
+            )
+        });
         let answered = self.reports.iter().all(|count| *count > 0);
         report.check(answered, || {
             let reports = numbered(&self.reports);
@@ -139,17 +165,7 @@ impl Counts {
             "  accepted: {}, of them {} with periods; join none {none}, simple {simple}, modified {modified}",
             self.accepted, self.speaking
         );
-        let names = [
-            ["fixed", "float"],
-            ["fold off", "on"],
-            ["mu-law", "G.721"],
-            ["without sizes", "with"],
-        ];
-        let half = |i: usize| {
-            let ([a, b], [first, second]) = (names[i], self.halves[i]);
-            format!("{a} {first}, {b} {second}")
-        };
-        println!("    {}", [0, 1, 2, 3].map(half).join("; "));
+        println!("    {}", halves(&self.halves));
         println!("  refused: {}", numbered(&self.refused));
         println!("  needs by answer: {}", numbered(&self.needs));
         println!("  plans by answer: {}", numbered(&self.plans));
@@ -174,10 +190,20 @@ impl Counts {
             "    lines compared: {} of {} reports",
             self.lines, self.with_lines
         );
-        for (what, [calls, count]) in TAKINGS.iter().zip(self.takings) {
+        for (what, [calls, count]) in TALLIES.iter().zip(self.tallies) {
             println!("    {what}: {count} in {calls} calls");
         }
+        println!("    calls with such rows: {}", halves(&self.changed));
     }
+}
+
+fn halves(counts: &[[u64; 2]; HALVES.len()]) -> String {
+    let half = |(names, counts): (&[&str; 2], &[u64; 2])| {
+        let ([a, b], [first, second]) = (names, counts);
+        format!("{a} {first}, {b} {second}")
+    };
+    let shown: Vec<String> = HALVES.iter().zip(counts).map(half).collect();
+    shown.join("; ")
 }
 
 fn numbered(counts: &ByNumber) -> String {

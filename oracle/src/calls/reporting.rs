@@ -1,4 +1,4 @@
-//! A call's period report beside the lines that the Rust tells.
+//! A call's period report beside the lines that it must have.
 
 use super::archive::{self, Request};
 use super::guarded::Guarded;
@@ -30,7 +30,7 @@ pub fn refused(rng: &mut Rng, call: &Call, refusal: Refusal, bench: &mut Bench) 
 pub fn spoken(rng: &mut Rng, call: &Call, spoken: &Spoken, bench: &mut Bench) {
     let about = &call.about;
     let mut request = request(rng, call);
-    let lines = &spoken.report.lines;
+    let lines = &spoken.lines;
     let wanted = Ok((&lines[..], spoken.summary[2]));
     let exact = LINE_BYTES * lines.len();
     let some = rng.between(1, 100);
@@ -47,7 +47,7 @@ pub fn spoken(rng: &mut Rng, call: &Call, spoken: &Spoken, bench: &mut Bench) {
         request.settings = request.settings & !FILTER | filter;
         report(rng, &request, exact, wanted, about, bench);
     }
-    bench.counts.taking(spoken);
+    bench.counts.tally(&spoken.tally);
 }
 
 /// The answer, the lines, and every byte of the buffer afterwards.
@@ -73,6 +73,7 @@ fn report(
     let differences = [
         period_report::difference(lines, &found),
         period_report::wrong_sum(samples, &found),
+        period_report::fall(&found),
         (left != buffer).then(|| left.difference(&buffer)),
     ];
     for difference in differences {

@@ -4,6 +4,7 @@
 pub mod damaged_calls;
 pub mod damaged_sheets;
 pub mod damaged_voices;
+pub mod empty_heads;
 pub mod sheets;
 pub mod small;
 pub mod text;

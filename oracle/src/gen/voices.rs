@@ -514,39 +514,3 @@ pub fn widened(rng: &mut Rng, old: &VoiceSpec, count: usize, ordered: bool) -> V
     }
     spec
 }
-
-/// The voice with periods that have no samples at the heads of its entries'
-/// halves, now and then all of a half: a size of 0, or nothing stored.
-pub fn with_empty_heads(rng: &mut Rng, old: &VoiceSpec) -> VoiceSpec {
-    let mut empty = BTreeSet::new();
-    for entry in &old.entries {
-        let mut start = usize::from(entry.start);
-        for half in entry.halves.map(usize::from) {
-            let count = match rng.below(12) {
-                0 => half,
-                1..=4 => rng.between(1, 3).min(half),
-                _ => 0,
-            };
-            empty.extend(start..start + count);
-            start += half;
-        }
-    }
-    let mut spec = old.clone();
-    match &mut spec.sizes {
-        Some(sizes) => empty.iter().for_each(|period| sizes[*period] = 0),
-        None => empty_stored(&mut spec, old, &empty),
-    }
-    spec
-}
-
-/// Leaves out what is stored of some periods.
-fn empty_stored(spec: &mut VoiceSpec, old: &VoiceSpec, empty: &BTreeSet<usize>) {
-    spec.residual.truncate(old.offsets[0] as usize);
-    for period in 0..old.offsets.len() - 1 {
-        let stored = old.offsets[period] as usize..old.offsets[period + 1] as usize;
-        if !empty.contains(&period) {
-            spec.residual.extend(&old.residual[stored]);
-        }
-        spec.offsets[period + 1] = spec.residual.len() as u32;
-    }
-}

@@ -75,7 +75,7 @@ loop-again c =
     let n = c .before .before .before .before .before .before .before .before .before .before .before .before .before .before .before .next-unit in
     let j = c .before .before .before .before .before .before .before .before .before .before .before .before .before .before .join-unit in
     let t = c .before .before .before .before .before .before .before .before .before .take-unit in
-    let m = t .kept .1 .1 .1 .1 .1 .1 in (
+    let m = t .kept .1 .1 .1 .1 .1 .1 .1 in (
       n .ensures .walking,
       (
         take-next (a .args .file .now) (a .args .by .voice) (a .pre .selects .searchable .opened) (a .args .natural) _ (l .loop .end) (l .loop .at) (a .args .marks .now) (l .loop .sizes) (l .loop .rows) (l .loop .excitation) (l .loop .decoded) _ (l .loop .inv .1 .0) (n .result .unit) _ (n .ensures .units) (j .result) (j .ensures) (t .result) _ _ _ _ (t .ensures) (m .1 .1 .1 .0),

@@ -59,6 +59,7 @@ report-unit-requires c κs =
     let n = c .before .before .next-unit in
     let j = c .before .join-unit in
     can-report (voiceOf (a .file .now)) (a .natural) _ (l .loop .end) (a .count) (l .loop .at) (l .loop .lines) _ (l .loop .inv .1) (n .result .unit) _ (n .ensures .units) (j .result) (j .ensures)
+    (n .ensures .inside .rising)
 
 loop-less : tie.Need-loop-less Inv-loop μ-loop
 loop-less c = let e = c .before .before .before .before .before .before .next-unit .ensures .fewer in omega (arith, e)

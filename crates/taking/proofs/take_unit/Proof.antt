@@ -3,17 +3,17 @@ use native.Mathlib.Omega.{arith}
 use borrow.Author.Needs.{needs}
 use lib.ListN.{length}
 use lib.Ieee.{ofBits}
-use Rattle.taking.proofs.UnitLaws.{Going, wholeOf, ran-out, mark-above, mark-low, can-take, going-on, going-first, room-for, took}
+use Rattle.taking.proofs.UnitLaws.{Going, wholeOf, ran-out, mark-above, can-take, going-on, going-first, room-for, took}
 use Rattle.taking.proofs.take_unit.Statement.{statement}
 use Rattle.taking.proofs.take_unit.Tie as tie
 
 abbrev Inv-loop : tie.InvT-loop
-Inv-loop file d unit end-before marks sizes₀ rows₀ excitation₀ decoded₀ pace end to₀ place₀ sizes rows excitation decoded to place =
-    Going file d unit marks pace end (wholeOf file d unit end-before marks to₀ sizes₀ rows₀ excitation₀ decoded₀)
+Inv-loop natural file d unit end-before marks sizes₀ rows₀ excitation₀ decoded₀ pace end to₀ place₀ sizes rows excitation decoded to place =
+    Going file d unit marks pace end (wholeOf natural file d unit end-before marks to₀ sizes₀ rows₀ excitation₀ decoded₀)
     (length sizes₀) (length rows₀) (length excitation₀) (length decoded₀) sizes rows excitation decoded to place
 
 abbrev μ-loop : tie.MeasureT-loop
-μ-loop file d unit end-before marks sizes₀ rows₀ excitation₀ decoded₀ pace end to₀ place₀ sizes rows excitation decoded to place = end - to .taken
+μ-loop natural file d unit end-before marks sizes₀ rows₀ excitation₀ decoded₀ pace end to₀ place₀ sizes rows excitation decoded to place = end - to .taken
 
 pace-of-requires : tie.Need-pace-of-requires Inv-loop μ-loop
 pace-of-requires c κs = let h = c .before .before .before .before .before .before .pre in (h .opened, (h .inside .rising, (h .inside .within, (h .short, h .low))))
@@ -26,7 +26,7 @@ unfolding ofBits
 loop-holds c =
     let o = c .before .before .before .before .before .before .before .before in
     let a = o .args in
-    going-first (a .file .now) (a .d) (a .unit) (a .end-before) (a .marks .now) (a .at) (a .sizes .now) (a .rows .now) (a .excitation .now) (a .decoded .now)
+    going-first (a .natural) (a .file .now) (a .d) (a .unit) (a .end-before) (a .marks .now) (a .at) (a .sizes .now) (a .rows .now) (a .excitation .now) (a .decoded .now)
     (c .before .pace-of .result) (c .share-end .result) (o .pre) (c .before .pace-of .ensures) (c .share-end .ensures .0) (c .share-end .ensures .1)
 
 u32-at-requires : tie.Need-u32-at-requires Inv-loop μ-loop
@@ -58,25 +58,17 @@ take-period-requires c κs =
     let h = o .pre in
     can-take (a .file .now) (a .d) (a .unit) (a .marks .now) _ _ _ _ _ _ _ (l .sizes) (l .rows) (l .excitation) (l .decoded) (l .to) (l .place) (l .inv) _
     (t .if1 .taken) (m .u32-at .ensures)
-    (q .nearest-period .result) (h .opened) (q .nearest-period .ensures .1) (h .low) (h .decodedRoom)
-    (room-for (a .file .now) (a .d) (a .unit) (a .end-before) (a .marks .now) (a .at) (a .sizes .now) (a .rows .now) (a .excitation .now) (a .decoded .now) h)
+    (q .nearest-period .result) (h .opened) (q .nearest-period .ensures .1) (search needs) (h .decodedRoom)
+    (room-for (a .natural) (a .file .now) (a .d) (a .unit) (a .end-before) (a .marks .now) (a .at) (a .sizes .now) (a .rows .now) (a .excitation .now) (a .decoded .now) h)
 
-add-t29 : tie.Need-add-t29 Inv-loop μ-loop
-add-t29 c =
+add-t30 : tie.Need-add-t30 Inv-loop μ-loop
+add-t30 c =
     let t = c .before .before .before .before .before .before .before .before .before .before .before .before .before .before .before .before .before in
     let w = t .before .before .loop .inv .within in
-    omega (arith, w, t .if1 .taken, t .before .before .before .before .before .before .before .before .before .before .before .good .1 .1 .1 .1 .0 .0)
+    omega (arith, w, t .if1 .taken, t .before .before .before .before .before .before .before .before .before .before .before .good .1 .1 .1 .1 .1 .0 .0)
 
 place-after-requires : tie.Need-place-after-requires Inv-loop μ-loop
-place-after-requires c κs =
-    let m = c .before .before .before .before .before .before .before .before .before .before .before .before .before .before .before .before in
-    let t = m .before in
-    let l = t .before .before .loop in
-    let o = t .before .before .before .before .before .before .before .before .before .before .before in
-    let a = o .args in
-    let e = mark-low (a .file .now) (a .d) (a .unit) (a .marks .now) _ _ _ _ _ _ _ (l .sizes) (l .rows) (l .excitation) (l .decoded) (l .to) (l .place) (l .inv) _
-    (t .if1 .taken) (m .u32-at .ensures) in
-    omega (arith, e, o .pre .low)
+place-after-requires c κs = search needs
 
 loop-less : tie.Need-loop-less Inv-loop μ-loop
 loop-less c = search needs
@@ -111,7 +103,7 @@ returns : tie.Need-returns Inv-loop μ-loop
 returns c =
     let l = c .before .before .loop in
     let a = c .before .before .before .before .before .before .before .before .before .before .before .args in
-    took (a .file .now) (a .d) (a .unit) (a .end-before) (a .marks .now) (a .at) (l .to)
+    took (a .natural) (a .file .now) (a .d) (a .unit) (a .end-before) (a .marks .now) (a .at) (l .to)
     (a .sizes .now) (l .sizes) (a .rows .now) (l .rows) (a .excitation .now) (l .excitation) (a .decoded .now) (l .decoded)
     (ran-out (a .file .now) (a .d) (a .unit) (a .marks .now) _ _ _ _ _ _ _ (l .sizes) (l .rows) (l .excitation) (l .decoded) (l .to) (l .place) (l .inv) (c .if1 .left))
     (l .inv .held)
@@ -130,7 +122,7 @@ take-unit-spec =
     sub-size
     nearest-period-requires
     take-period-requires
-    add-t29
+    add-t30
     place-after-requires
     loop-less
     loop-again
