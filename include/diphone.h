@@ -113,9 +113,9 @@ uint32_t diphone_need(const uint8_t *DIPHONE_RESTRICT voice, size_t voice_len,
  * Leaves:  on 0, in lines a line for each period, in their order; bytes past these as they were. Pair
  *          and half are those of the unit that took the period's mark: in the simple join a unit takes
  *          the marks that its own periods made, those of empty periods too; in the modified join, unit by
- *          unit, the marks not yet taken and not above its target end. In every join pairs never fall from line to
- *          line, nor do halves within a pair. A period begins where the one before it ends, and the
- *          sizes, those that diphone_plan fills, add up to the samples of the call. */
+ *          unit, the marks not yet taken and not above its target end. In every join pairs never fall
+ *          from line to line, nor do halves within a pair. A period begins where the one before it ends,
+ *          and the sizes, those that diphone_plan fills, add up to the samples of the call. */
 uint32_t diphone_report(const uint8_t *DIPHONE_RESTRICT voice, size_t voice_len,
                         const uint8_t *DIPHONE_RESTRICT sheet, size_t sheet_len,
                         uint32_t settings, uint8_t *DIPHONE_RESTRICT lines, size_t lines_len);

@@ -12,8 +12,10 @@ use Rattle.base.specs.Words.{low, signed16}
 use Rattle.float.specs.Casts.{narrow}
 use Rattle.ulaw.specs.Ulaw.{decisionValue, quantisedValue, lastInterval, ulawOf, sampleOf}
 use Rattle.adpcm_float.specs.Floating.{exponent, mantissa, floata, srMag, floatb, anMag, wanMag, signed, fmult}
-use Rattle.adpcm_scale.specs.Scale.{magnitude, reconst, adda, antilog, dqOf, functw, filtd, limb, filte, mix, functf, filta, filtb, difm, subtc, filtc, triga, lima, speedOf}
-use Rattle.adpcm_predict.specs.Predictor.{sezi, sei, dqi, addb, sigpkOf, ugb, upb, zerosOf, fa1, fa, uga2, upa2, limc, uga1, upa1, limd, tone, thr2, trans, polesOf}
+use Rattle.adpcm_scale.specs.Scale.{magnitude, reconst, adda, antilog, dqOf, functw, filtd, limb, filte, mix, functf}
+use Rattle.adpcm_scale.specs.Scale.{filta, filtb, difm, subtc, filtc, triga, lima, speedOf}
+use Rattle.adpcm_predict.specs.Predictor.{sezi, sei, dqi, addb, sigpkOf, ugb, upb, zerosOf}
+use Rattle.adpcm_predict.specs.Predictor.{fa1, fa, uga2, upa2, limc, uga1, upa1, limd, tone, thr2, trans, polesOf}
 use Rattle.adpcm.specs.Decoder.{fresh, signalsOf, delayed, nextOf, sampleIn, codesOf, decodedFrom, decoded}
 use Rattle.text.specs.Names.{same, before, among}
 use Rattle.text.specs.Utf8.{lead, step, waits, complete, utf8}
@@ -24,7 +26,8 @@ use Rattle.voice.specs.Voice.{entryAt, wholeEntry, entriesFrom, voiceAt, places
 use Rattle.voice.specs.Periods.{offset, residualOf, samplesOf, samplesFrom, rowOf, longest, decodeRoom}
 use Rattle.voice.specs.Opening.{hasNeeded, risingIn, goodTables, withinFrames, distinct, goodIndex, openingRefusal, indexFits}
 use Rattle.phoneset.specs.Phones.{vowels, consonants, vc, isVowel}
-use Rattle.sheet.specs.Sheet.{_andThen_, groups, count, printable, name, isFinite, finite, valueOf, value, asF32, segment, target, repeated, sheetFrom, sheetRefusal, sheetOf}
+use Rattle.sheet.specs.Sheet.{_andThen_, groups, count, printable, name, isFinite, finite, valueOf, value, asF32}
+use Rattle.sheet.specs.Sheet.{segment, target, repeated, sheetFrom, sheetRefusal, sheetOf}
 use Rattle.sheet.specs.Followers.{nameOf}
 use Rattle.units.specs.Selecting.{foldName, folded, inCluster, firstTried, entryOf}
 use Rattle.units.specs.Units.{samplesAt, midway, unitsOfPair, unitsFrom, unitsAll, endRefusal}
@@ -44,7 +47,8 @@ use Rattle.call.specs.declared.Settings.{Settings}
 use Rattle.call.specs.declared.Called.{Called}
 use Rattle.call.specs.declared.Called.the-variants.{Spoken, Refused}
 use Rattle.call.specs.Call.{simplePlan, modifiedPlan, planBy, planOf, periodsTaken, periodsOf}
-use Rattle.call.specs.Buffers.{Buffers, filled, needOf, holds, fits, checkRefusal, callRefusal, summaryOf, freshOf, zeroState, plannedOf, buffersAfter, calledNumber}
+use Rattle.call.specs.Buffers.{Buffers, filled, needOf, holds, fits, checkRefusal, callRefusal, summaryOf}
+use Rattle.call.specs.Buffers.{freshOf, zeroState, plannedOf, buffersAfter, calledNumber}
 use Rattle.call.specs.Pull.{Lent, possible, nextPart, pullOf, pullNumber}
 use Rattle.call.specs.Machine.{Shown, pulls}
 
