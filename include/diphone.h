@@ -17,7 +17,7 @@
 #include <stddef.h>
 #include <stdint.h>
 
-#define DIPHONE_VERSION "1.2"
+#define DIPHONE_VERSION "1.3"
 
 #ifdef __cplusplus
 #define DIPHONE_RESTRICT
@@ -69,17 +69,18 @@ uint32_t diphone_open(const uint8_t *DIPHONE_RESTRICT voice, size_t voice_len,
                       uint8_t *DIPHONE_RESTRICT index, size_t index_len,
                       uint8_t *DIPHONE_RESTRICT record, size_t record_len);
 
-/* Settings of a call: one word, of a join, a filter and, perhaps, DIPHONE_FOLD, joined by |. Every
+/* Settings of a call: one word, of a join and, perhaps, a filter and DIPHONE_FOLD, joined by |. Every
  * number is a setting: of bits 0 and 1 (the join) 3 is the modified join too; of bits 2 and 3 (the
- * filter) all but DIPHONE_FILTER_FIXED are the float filter; bits 5 and above mean nothing yet and
- * should be 0. */
+ * filter) 3 is the float filter too, and 0 names none: such a call answers in everything as the one
+ * that names the float filter; bits 5 and above mean nothing yet and should be 0. */
 enum {
-    DIPHONE_JOIN_NONE = 0,     /* no periods */
-    DIPHONE_JOIN_SIMPLE = 1,   /* each period as long as it is stored */
-    DIPHONE_JOIN_MODIFIED = 2, /* periods by the sheet's ends and targets */
+    DIPHONE_JOIN_NONE = 0,      /* no periods */
+    DIPHONE_JOIN_SIMPLE = 1,    /* each period as long as it is stored */
+    DIPHONE_JOIN_MODIFIED = 2,  /* periods by the sheet's ends and targets */
+    DIPHONE_FILTER_UNNAMED = 0, /* the call ends up with the float filter */
     DIPHONE_FILTER_FIXED = 4,
     DIPHONE_FILTER_FLOAT = 8,
-    DIPHONE_FOLD = 16          /* `ah` counts as `aa` */
+    DIPHONE_FOLD = 16           /* `ah` counts as `aa` */
 };
 
 /* What the buffers of a call need: six numbers of 8 bytes each, for entries of the index, marks,
@@ -124,11 +125,11 @@ uint32_t diphone_report(const uint8_t *DIPHONE_RESTRICT voice, size_t voice_len,
  * the order (row values a period) and entries of the index. */
 #define DIPHONE_SUMMARY_BYTES 48
 
-/* A filter state: numbers of 4 bytes for the filter (0 fixed, 1 float), the order, the ring place
- * and the bits of coeff_min and coeff_range; of 8 bytes for the period and the sample place; of 4
- * bytes for each of the history's 33 places (an i32 of the fixed filter, the bits of an f32 of the
- * float filter). The ring has order + 1 of these places, counted upwards; the ring place is the one
- * written next, the order in a fresh state. */
+/* A filter state: numbers of 4 bytes for the filter that the call ended up with (0 fixed, 1 float), the
+ * order, the ring place and the bits of coeff_min and coeff_range; of 8 bytes for the period and the
+ * sample place; of 4 bytes for each of the history's 33 places (an i32 of the fixed filter, the bits of
+ * an f32 of the float filter). The ring has order + 1 of these places, counted upwards; the ring place
+ * is the one written next, the order in a fresh state. */
 #define DIPHONE_STATE_BYTES 168
 
 /* Makes a call: opens the voice, reads the sheet, makes the pitch marks and fills the buffers.

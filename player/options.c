@@ -29,7 +29,7 @@ void print_usage(FILE *stream)
           "Speaks the call sheet SHEET with the voice file VOICE. A file named - is standard input;\n"
           "after -- every word is a file.\n"
           "  --join    how units are joined (modified)\n"
-          "  --filter  the arithmetic of the filter (fixed)\n"
+          "  --filter  the arithmetic of the filter; if none is named, one hears float\n"
           "  --fold    speak ah as aa\n"
           "  --gain    louder by DB decibels, or softer below 0; less where samples would clip (0)\n"
           "  --wav     write a WAV file; with - on standard output\n"
@@ -216,7 +216,7 @@ static int check_options(struct options *options)
 int read_options(struct options *options, int count, char **words)
 {
     static const struct options DEFAULTS = {.join = DIPHONE_JOIN_MODIFIED,
-                                            .filter = DIPHONE_FILTER_FIXED,
+                                            .filter = DIPHONE_FILTER_UNNAMED,
                                             .output = OUTPUT_LIST,
                                             .task = TASK_SPEAK};
     int place = 1;

@@ -27,19 +27,42 @@ pub enum Filter {
 #[derive(Clone, Copy, Debug, PartialEq, Eq)]
 pub struct Settings {
     pub join: Join,
-    pub filter: Filter,
+    /// Nothing where the call names no filter.
+    pub filter: Option<Filter>,
     pub fold: bool,
 }
 
 pub const JOINS: [Join; 3] = [Join::None, Join::Simple, Join::Modified];
 pub const FILTERS: [Filter; 2] = [Filter::Fixed, Filter::Float];
 
+/// What a call may say of its filter.
+pub const NAMED: [Option<Filter>; 3] = [Some(Filter::Fixed), Some(Filter::Float), None];
+
+pub fn filter_name(named: Option<Filter>) -> &'static str {
+    match named {
+        Some(Filter::Fixed) => "fixed",
+        Some(Filter::Float) => "float",
+        None => "filter not named",
+    }
+}
+
 impl Settings {
-    /// Every setting that can be expressed.
+    /// Every setting that can be expressed; those that name no filter are the
+    /// last.
     pub fn all() -> Vec<Settings> {
+        [Settings::named(), Settings::with(&[None])].concat()
+    }
+
+    /// Those that name a filter.
+    pub fn named() -> Vec<Settings> {
+        Settings::with(&FILTERS.map(Some))
+    }
+
+    /// Every join with these filters, folded and not.
+    fn with(filters: &[Option<Filter>]) -> Vec<Settings> {
         let mut all = Vec::new();
         for join in JOINS {
-            for filter in FILTERS {
+            for &filter in filters {
                 for fold in [false, true] {
                     all.push(Settings { join, filter, fold });
                 }
@@ -48,8 +71,13 @@ impl Settings {
         all
     }
 
+    /// The filter that a call ends up with: the one that it names, else float.
+    pub fn filter_in(self) -> Filter {
+        self.filter.unwrap_or(Filter::Float)
+    }
+
     /// The word of the settings, as include/diphone.h has it: join, 4 for the
-    /// fixed filter or 8 for the float filter, 16 for fold.
+    /// fixed filter, 8 for the float filter or 0 for none named, 16 for fold.
     pub fn word(self) -> u32 {
         let join = match self.join {
             Join::None => 0,
@@ -57,8 +85,9 @@ impl Settings {
             Join::Modified => 2,
         };
         let filter = match self.filter {
-            Filter::Fixed => 4,
-            Filter::Float => 8,
+            Some(Filter::Fixed) => 4,
+            Some(Filter::Float) => 8,
+            None => 0,
         };
         join | filter | 16 * u32::from(self.fold)
     }
@@ -66,7 +95,7 @@ impl Settings {
     pub fn new(join: Join) -> Settings {
         Settings {
             join,
-            filter: Filter::Fixed,
+            filter: Some(Filter::Fixed),
             fold: false,
         }
     }

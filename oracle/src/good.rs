@@ -1,7 +1,7 @@
 //! Good voices and sheets from a seed: opened by both readers, spoken by the
 //! Rust under every setting, and extended.
 
-use crate::call::{self, Ending, Filter, Join, Settings, FILTERS, JOINS};
+use crate::call::{self, Ending, Filter, Join, Settings, JOINS, NAMED};
 use crate::diphone::access;
 use crate::diphone::DiphoneVoice;
 use crate::dsp;
@@ -27,8 +27,9 @@ pub struct Counts {
     pub g721: u64,
     pub with_sizes: u64,
     pub sheets: u64,
-    /// Calls spoken with their periods and samples, by join and filter.
-    pub spoken: [[[u64; 3]; 2]; 3],
+    /// Calls spoken with their periods and samples, by join and by what they say
+    /// of their filter.
+    pub spoken: [[[u64; 3]; NAMED.len()]; 3],
     pub refused: [u64; REFUSALS + 1],
     /// Pairs by the name found: the first tried, the second, none.
     pub found: [u64; 3],
@@ -329,15 +330,13 @@ impl Case<'_> {
         let filled = reference::fill(&voice.rust, sheet, settings);
         let taking = Taking::new(&voice.read, &voice.rust, &filled, settings.join);
         // What is filled does not depend on the filter.
-        if settings.filter == Filter::Fixed {
+        if settings.filter_in() == Filter::Fixed {
             self.compare_filled(voice, sheet, settings, marks, &filled);
             self.compare_takers(voice, settings, &filled);
         }
         self.compare_periods(voice, settings, &periods, &filled, &taking);
         let join = JOINS.iter().position(|join| *join == settings.join)?;
-        let filter = FILTERS
-            .iter()
-            .position(|filter| *filter == settings.filter)?;
+        let filter = NAMED.iter().position(|named| *named == settings.filter)?;
         let spoken = &mut self.counts.spoken[join][filter];
         spoken[0] += 1;
         spoken[1] += periods.len() as u64;
@@ -391,7 +390,7 @@ impl Case<'_> {
             format!("case {case}: {settings:?}: sizes")
         });
         let header = access::header(&voice.rust);
-        let resynthesise = match settings.filter {
+        let resynthesise = match settings.filter_in() {
             Filter::Fixed => dsp::lpc_resynthesise,
             Filter::Float => dsp::lpc_resynthesise_float,
         };

@@ -1,5 +1,5 @@
 //! `oracle real`: a voice file and call sheets that were not generated, in
-//! every join and filter, folded and not. `tools/real/make` makes some.
+//! every setting. `tools/real/make` makes some.
 
 use crate::args::Args;
 use crate::call::Settings;

@@ -130,7 +130,7 @@ pub fn params(voice: &DiphoneVoice, settings: Settings) -> VoiceParams {
             Join::Simple => JoinType::Simple,
             Join::Modified => JoinType::ModifiedLpc,
         },
-        resynth_type: match settings.filter {
+        resynth_type: match settings.filter_in() {
             Filter::Fixed => ResynthType::Fixed,
             Filter::Float => ResynthType::Float,
         },

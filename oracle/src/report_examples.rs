@@ -1,7 +1,7 @@
 //! Period reports with their lines and rows written out, and wrong ones that
 //! must be told apart.
 
-use crate::call::{Filter, Join, Settings};
+use crate::call::{Join, Settings, NAMED};
 use crate::expected::{self, Given, Most, Spoken};
 use crate::gen::damaged_calls::{entry, two_periods};
 use crate::gen::voices::{file, plain, VoiceSpec};
@@ -43,9 +43,9 @@ type Answer = (Vec<Line>, Vec<u16>);
 
 impl Example {
     /// Whatever the filter is, which plays no part.
-    fn spoken(&self) -> [Spoken; 2] {
+    fn spoken(&self) -> [Spoken; NAMED.len()] {
         let voice = file(&self.voice.sections());
-        [Filter::Fixed, Filter::Float].map(|filter| {
+        NAMED.map(|filter| {
             let settings = Settings {
                 filter,
                 ..Settings::new(self.join)
@@ -98,7 +98,7 @@ impl Example {
 
 /// Document 01's example, as the marking program prints it.
 fn printed(report: &mut Report) {
-    let [found, _] = example().spoken();
+    let [found, ..] = example().spoken();
     let printed = lines::reported(&found.lines);
     let expected = "1 1 1 0 2\n2 1 2 2 3\n".to_string();
     report.equal(&expected, &printed, || "printed report".into());
@@ -310,7 +310,7 @@ fn without_lines(report: &mut Report) {
 /// Each number of each line made wrong, and lines that are missing. A wrong
 /// first or size also does not add up.
 fn wrong_lines(report: &mut Report) {
-    let [Spoken { lines, .. }, _] = example().spoken();
+    let [Spoken { lines, .. }, ..] = example().spoken();
     let samples = 5;
     let seen = |found: &[Line]| {
         let found = period_report::read(&period_report::bytes(found), found.len());

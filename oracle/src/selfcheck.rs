@@ -2,7 +2,7 @@
 //! archive.
 
 use crate::args::Args;
-use crate::call::{self, Settings, FILTERS, JOINS};
+use crate::call::{self, Settings, JOINS, NAMED};
 use crate::examples;
 use crate::gen::damaged_calls::{self, LabelledCall};
 use crate::gen::damaged_voices::{self, DamagedVoice, InRust};
@@ -230,10 +230,11 @@ fn print_damages(counts: &Counts) {
 
 fn print_calls(good: &good::Counts) {
     for (j, join) in JOINS.iter().enumerate() {
-        for (f, filter) in FILTERS.iter().enumerate() {
+        for (f, named) in NAMED.into_iter().enumerate() {
             let [calls, periods, samples] = good.spoken[j][f];
+            let filter = call::filter_name(named);
             println!(
-                "  join {join:?}, filter {filter:?}: {calls} calls, {periods} periods, \
+                "  join {join:?}, {filter}: {calls} calls, {periods} periods, \
                  {samples} samples"
             );
         }

@@ -1,6 +1,6 @@
 /* Makes document 01's example call through the C interface: what it needs, its plan, its pulls, its
- * report; then calls with empty periods, and calls and pulls that are refused. Ends with 0 if all is as it
- * should be. */
+ * report; then calls with empty periods, calls that name no filter, and calls and pulls that are refused.
+ * Ends with 0 if all is as it should be. */
 #define TEST "call"
 #include "example.h"
 
@@ -11,8 +11,10 @@ enum {
     NONE = DIPHONE_JOIN_NONE,
     SIMPLE = DIPHONE_JOIN_SIMPLE,
     MODIFIED = DIPHONE_JOIN_MODIFIED,
+    UNNAMED = DIPHONE_FILTER_UNNAMED,
     FIXED = DIPHONE_FILTER_FIXED,
-    FLOAT = DIPHONE_FILTER_FLOAT
+    FLOAT = DIPHONE_FILTER_FLOAT,
+    FILTER_BITS = FIXED | FLOAT /* the float filter too */
 };
 
 /* ---- sheets: the segments pau and aa */
@@ -161,7 +163,7 @@ static void fills(size_t entries, uint32_t order)
 
 /* ---- pulls */
 
-static uint8_t samples[32];
+static uint8_t samples[256];
 
 static int64_t pull_with(size_t state_length, size_t rows_length, size_t slice_length)
 {
@@ -298,7 +300,7 @@ static void example_report(void)
         expect(report(SIMPLE | FIXED, size) == 0, "the example is reported");
         has_lines(2, numbers, "document 02's lines");
     }
-    for (uint32_t filter = 0; filter <= 12; filter += 4) {
+    for (uint32_t filter = UNNAMED; filter <= FILTER_BITS; filter += FIXED) {
         expect(report(SIMPLE | filter | DIPHONE_FOLD, sizeof lines) == 0, "any filter is reported");
         has_lines(2, numbers, "the filter plays no part in the report");
     }
@@ -428,8 +430,8 @@ static void joints(void)
         for (uint32_t codec = 0; codec < 2; codec += 1) {
             joint_voice(codec, &all[i]);
             joint_sheet(&all[i]);
-            joint_call(FIXED, &all[i]);
-            joint_call(FLOAT, &all[i]);
+            for (uint32_t filter = UNNAMED; filter <= FILTER_BITS; filter += FIXED)
+                joint_call(filter, &all[i]);
         }
 }
 
@@ -476,7 +478,7 @@ static void empty_head(void)
     joint_sheet(&joint);
     exact(SIMPLE);
     expect(six(need, 1, 3, 3, 3, 5, 0), "what a call with an empty period needs");
-    for (uint32_t filter = FIXED; filter <= FLOAT; filter += FLOAT - FIXED) {
+    for (uint32_t filter = UNNAMED; filter <= FILTER_BITS; filter += FIXED) {
         joint_call(filter, &joint);
         has_lines(3, numbers, "an empty period belongs to the half that has it");
         expect(memcmp(lent[ROWS], rows, sizeof rows) == 0, "and has a row of that half");
@@ -488,33 +490,108 @@ static void empty_head(void)
     untouched_report(SIMPLE, 3 * DIPHONE_REPORT_LINE_BYTES - 1, DIPHONE_SHORT_BUFFER, "no line for it");
 }
 
+/* ---- a filter that is not named */
+
+enum { ANSWERS = 3, PLANNED = sizeof need + sizeof lines + ANSWERS * 4 + sizeof lent };
+
+static uint8_t said[2][16384];
+static size_t said_length;
+
+static void add(uint8_t *all, const void *data, size_t count)
+{
+    memcpy(all + said_length, data, count);
+    said_length += count;
+}
+
+/* All that a call answers and leaves: need, report and plan, then each pull, first without a slice, and one
+ * pull more. */
+static void take_all(uint32_t settings, uint8_t *all)
+{
+    uint32_t answers[ANSWERS];
+    size_t periods = 0;
+    int64_t answer = 0;
+
+    memset(all, GUARD, sizeof said[0]);
+    said_length = 0;
+    answers[0] = needs(settings, sizeof need);
+    add(all, need, sizeof need);
+    answers[1] = report(settings, sizeof lines);
+    add(all, lines, sizeof lines);
+    answers[2] = plan(settings);
+    add(all, answers, sizeof answers);
+    add(all, lent, sizeof lent);
+    for (size_t i = 0; i <= lengths[SIZES]; i += 4)
+        for (size_t slice = 0; slice <= sizeof samples; slice += sizeof samples) {
+            answer = pull(slice);
+            periods += answer >= 0;
+            add(all, &answer, sizeof answer);
+            add(all, samples, sizeof samples);
+            add(all, lent[STATE], sizeof lent[STATE]);
+        }
+    expect(answer == DIPHONE_DONE && periods == lengths[SIZES] / 4, "all periods are given, then done");
+}
+
+/* Such a call answers in everything as the one that names the float filter; the plan of the one that names
+ * the fixed filter differs in the state's number of the filter alone. */
+static void unnamed_filter(uint32_t others)
+{
+    size_t differing = 0;
+
+    exact(others);
+    take_all(others | FLOAT, said[0]);
+    take_all(others | UNNAMED, said[1]);
+    expect(memcmp(said[0], said[1], sizeof said[0]) == 0, "a filter not named is as the float filter");
+    take_all(others | FILTER_BITS, said[1]);
+    expect(memcmp(said[0], said[1], sizeof said[0]) == 0, "both bits are as the float filter");
+    take_all(others | FIXED, said[1]);
+    for (size_t i = 0; i < PLANNED; i += 1)
+        differing += said[0][i] != said[1][i];
+    expect(differing == 1, "the fixed filter's plan has another number in the state, and nothing else");
+}
+
+/* In every join, with the voice and the sheet that are there. */
+static void unnamed_filters(void)
+{
+    for (uint32_t join = NONE; join <= 3; join += 1) {
+        unnamed_filter(join);
+        unnamed_filter(join | DIPHONE_FOLD);
+    }
+}
+
 /* ---- refused calls */
 
 /* Need, plan and report refuse with this number whatever the buffers are, and leave all. */
-static void refused(uint32_t number, uint32_t join, const char *what)
+static void refused_with(uint32_t number, uint32_t settings, const char *what)
 {
     for (size_t size = 0; size <= 256; size += 128) {
         for (int i = 0; i < BUFFERS; i += 1)
             lengths[i] = size;
-        expect(plan(join | FIXED) == number, what);
+        expect(plan(settings) == number, what);
         for (int i = 0; i < BUFFERS; i += 1)
             past(i, 0);
     }
-    expect(needs(join, 0) == number && needs(join, sizeof need) == number, what);
+    expect(needs(settings, 0) == number && needs(settings, sizeof need) == number, what);
     expect(all_guard(need, 0, sizeof need), what);
-    untouched_report(join | FIXED, 0, number, what);
-    untouched_report(join | FIXED, sizeof lines, number, what);
+    untouched_report(settings, 0, number, what);
+    untouched_report(settings, sizeof lines, number, what);
+}
+
+/* Whatever the filter, and where none is named. */
+static void refused(uint32_t number, uint32_t join, const char *what)
+{
+    for (uint32_t filter = UNNAMED; filter <= FILTER_BITS; filter += FIXED)
+        refused_with(number, join | filter, what);
 }
 
 /* Each buffer one byte short. */
-static void short_buffers(void)
+static void short_buffers(uint32_t filter)
 {
     exact(SIMPLE);
     for (int i = 0; i < BUFFERS; i += 1) {
         if (lengths[i] == 0)
             continue;
         lengths[i] -= 1;
-        expect(plan(SIMPLE | FIXED) == DIPHONE_SHORT_BUFFER, "a buffer one byte short");
+        expect(plan(SIMPLE | filter) == DIPHONE_SHORT_BUFFER, "a buffer one byte short");
         for (int k = 0; k < BUFFERS; k += 1)
             past(k, 0);
         lengths[i] += 1;
@@ -668,6 +745,7 @@ static void g721(void)
     expect(!all_guard(lent[DECODED], 0, 6), "the decode buffer is used");
     past(DECODED, 6);
     example_report();
+    unnamed_filters();
 }
 
 int main(void)
@@ -684,22 +762,27 @@ int main(void)
         speak();
         for (int i = 0; i < BUFFERS; i += 1)
             lengths[i] += 3;
-        for (uint32_t filter = 0; filter <= 12; filter += 4) {
+        for (uint32_t filter = UNNAMED; filter <= FILTER_BITS; filter += FIXED) {
             expect(plan(SIMPLE | filter | DIPHONE_FOLD) == 0, "longer buffers, other settings");
             expect(u32_at(STATE, 0) == (filter != FIXED), "0 and 3 are the float filter too");
+            fills(entries, order);
         }
-        fills(entries, order);
-        short_buffers();
+        for (uint32_t filter = UNNAMED; filter <= FILTER_BITS; filter += FIXED)
+            short_buffers(filter);
         example_report();
+        unnamed_filters();
     }
     example(0, 0, 1);
     empty_reports();
     modified_report();
+    unnamed_filters();
     no_join();
     four_marks();
     g721();
     empty_head();
+    unnamed_filters();
     joints();
+    unnamed_filters();
     from_the_heap();
     unfit_voices();
     unfit_sheets();

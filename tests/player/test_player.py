@@ -27,6 +27,8 @@ VALGRIND = ["valgrind", "--quiet", "--leak-check=full", "--error-exitcode=99"] i
 EXAMPLE = EXAMPLES / "example.flv", EXAMPLES / "example.sht"
 YARD = EXAMPLES / "yard.flv", EXAMPLES / "yard.sht"
 
+JOINS = "none", "simple", "modified"
+
 # The samples of YARD as the Rust speaks them: how many, and the first digits of their SHA-256.
 DIGESTS = {
     ("modified", "fixed"): (8377, "fdfe41ac235a167c"),
@@ -34,6 +36,7 @@ DIGESTS = {
     ("simple", "fixed"): (7450, "3c6fdec51d8108f5"),
     ("simple", "float"): (7450, "a949fd1da786f65b"),
     ("none", "fixed"): (0, "e3b0c44298fc1c14"),
+    ("none", "float"): (0, "e3b0c44298fc1c14"),
 }
 
 
@@ -55,11 +58,17 @@ class InFolder(unittest.TestCase):
         path.write_bytes(data)
         return path
 
+    def unfit(self):
+        """The files of calls that are refused, with each number from 1 to 12."""
+        voices, sheets = cases.unfit_voices(YARD[0].read_bytes()), [*cases.unfit_sheets(), *cases.unfit_calls()]
+        calls = [(self.file(f"{i}.flv", data), YARD[1]) for i, (_, _, data) in enumerate(voices)]
+        return calls + [(YARD[0], self.file(f"{i}.sht", data)) for i, (_, _, data) in enumerate(sheets)]
+
 
 class Output(InFolder):
     def test_document(self):
         lines = b"8000 2 5\n1 2 8 132\n2 3 0 -8 -132\n"
-        self.assertEqual(run(*EXAMPLE, "--join", "simple"), (0, lines, ""))
+        self.assertEqual(run(*EXAMPLE, "--join", "simple", "--filter", "fixed"), (0, lines, ""))
 
     def test_wav(self):
         path = self.folder / "yard.wav"
@@ -96,7 +105,8 @@ class Output(InFolder):
     def test_picture(self):
         """The picture in docs/ shows what is spoken."""
         command = [REPO / "tools/draw", YARD[1], "--voice", YARD[0]]
-        drawn = subprocess.run(command, input=run(*YARD)[1], stdout=subprocess.PIPE, check=True).stdout
+        spoken = run(*YARD, "--filter", "fixed")[1]
+        drawn = subprocess.run(command, input=spoken, stdout=subprocess.PIPE, check=True).stdout
         self.assertEqual(drawn, (REPO / "docs/sheet-to-sound.svg").read_bytes())
 
     def test_fold(self):
@@ -304,6 +314,7 @@ class Report(InFolder):
 
     def test_yard(self):
         self.assertEqual(self.check(*YARD), 119)
+        self.assertEqual(self.check(*YARD, "--filter", "fixed"), 119)
         self.assertEqual(self.check(*YARD, "--fold", "--filter", "float"), 119)
         ends = run(*YARD, "--ends")[1].split()
         self.assertEqual(ends[:8], b"1 pau 800 737 2 n 1520 1494".split())
@@ -428,11 +439,8 @@ class Report(InFolder):
 
     def test_refusals(self):
         """As without the options, and nothing else."""
-        voices, sheets = cases.unfit_voices(YARD[0].read_bytes()), [*cases.unfit_sheets(), *cases.unfit_calls()]
-        calls = [(self.file(f"{i}.flv", data), YARD[1]) for i, (_, _, data) in enumerate(voices)]
-        calls += [(YARD[0], self.file(f"{i}.sht", data)) for i, (_, _, data) in enumerate(sheets)]
         seen = set()
-        for files in calls:
+        for files in self.unfit():
             self.assertIsNone(self.check(*files))
             seen.add(int(run(*files, "--report")[2].split()[2].rstrip(":")))
         self.assertEqual(seen, set(range(1, 13)))
@@ -456,6 +464,70 @@ class Report(InFolder):
             with open("/dev/full", "wb") as full:
                 done = subprocess.run([PLAYER, *YARD, option], stdout=full, stderr=subprocess.PIPE, check=False)
             self.assertEqual((done.returncode, done.stderr[:36]), (1, b"player: cannot write standard output"))
+
+
+TABLES = ("--report",), ("--ends",)
+SOUNDS = (), ("--raw",), ("--wav", "-"), ("--wav", "call.wav"), ("--gain", "40")
+FORMS = *SOUNDS, *TABLES, *((*table, "--wav", "call.wav") for table in TABLES)
+
+
+class Filter(InFolder):
+    """Without --filter no filter is named, and all is as with --filter float."""
+
+    def told(self, words, *more):
+        """Exit status, output and messages of a call in every form, and the WAV file beside them."""
+        path, found = self.folder / "call.wav", []
+        for form in FORMS:
+            done = run(*words, *form, *more, cwd=self.folder)
+            found.append((done, path.read_bytes() if path.exists() else None))
+            path.unlink(missing_ok=True)
+        return found
+
+    def compare(self, *words):
+        """What a call without --filter gives in every form, which has to be that of float, and what fixed gives."""
+        unnamed, named, fixed = (self.told(words, *how) for how in ((), ("--filter", "float"), ("--filter=fixed",)))
+        self.assertTrue(unnamed == named, words)  # unittest takes minutes to show how long texts differ
+        return unnamed, fixed
+
+    def test_joins(self):
+        """Sound is that of float and not that of fixed; tables, join none and document 01's example are the same."""
+        for files, join, fold in itertools.product((EXAMPLE, YARD), JOINS, ((), ("--fold",))):
+            unnamed, fixed = self.compare(*files, "--join", join, *fold)
+            self.assertEqual({done[0] for done, _ in unnamed + fixed}, {0})
+            differ = [one != other for one, other in zip(unnamed, fixed)]
+            heard = files == YARD and join != "none"
+            self.assertEqual(differ, [heard and form not in TABLES for form in FORMS], (files, join))
+
+    def test_samples(self):
+        for join in JOINS:
+            raw = run(*YARD, "--raw", "--join", join)[1]
+            found = len(raw) // 2, hashlib.sha256(raw).hexdigest()[:16]
+            self.assertEqual(found, DIGESTS[join, "float"], join)
+
+    def test_example_with_rows(self):
+        voice = self.file("rows.flv", cases.example_with_rows())
+        for how, sample in ((), -7), (("--filter=float",), -7), (("--filter=fixed",), -8):
+            lines = f"8000 2 5\n1 2 8 132\n2 3 0 {sample} -132\n".encode()
+            self.assertEqual(run(voice, EXAMPLE[1], "--join=simple", *how), (0, lines, ""))
+
+    def test_default_join(self):
+        """Without --join too."""
+        self.assertTrue(self.compare(*YARD)[0] == self.told((*YARD, "--join", "modified")))
+
+    def test_refusals(self):
+        seen = set()
+        for files in self.unfit():
+            unnamed, fixed = self.compare(*files)
+            message = unnamed[0][0][2]
+            self.assertEqual({*unnamed, *fixed}, {((1, b"", message), None)})
+            seen.add(int(re.match("player: refused ([0-9]+): ", message)[1]))
+        self.assertEqual(seen, set(range(1, 13)))
+
+    def test_named_twice(self):
+        """The last one counts."""
+        for first, last in itertools.permutations(("fixed", "float")):
+            twice = run(*YARD, "--filter", first, "--filter", last)
+            self.assertTrue(twice == run(*YARD, f"--filter={last}"), last)
 
 
 class Notes(InFolder):
@@ -647,6 +719,10 @@ class CommandLine(unittest.TestCase):
             (voice, call, "--join"),
             (voice, call, "--join", "other"),
             (voice, call, "--filter", "fixe"),
+            (voice, call, "--filter", "none"),
+            (voice, call, "--filter"),
+            (voice, call, "--filter="),
+            (voice, call, "--filter", ""),
             (voice, call, "--wav"),
             (voice, call, "--raw", "--wav", "x"),
             (voice, call, "--loud"),
@@ -677,6 +753,8 @@ class CommandLine(unittest.TestCase):
             status, text, message = run(word)
             self.assertEqual((status, message), (0, ""))
             self.assertTrue(text.startswith(b"usage: player VOICE SHEET"))
+            self.assertIn(b"\n  --filter  the arithmetic of the filter; if none is named, one hears float\n", text)
+            self.assertLessEqual(max(map(len, text.splitlines())), 100)
 
     def test_version(self):
         header = (REPO / "include/diphone.h").read_text()
@@ -702,7 +780,7 @@ class Memory(InFolder):
     def test_clean(self):
         unfit = self.file("unfit.sht", b"\x02")
         calls = [(*EXAMPLE, "--join", "simple"), (*EXAMPLE,), (*YARD, "--raw"), (*YARD, "--join", "none")]
-        calls += [(*YARD, "--filter", "float", "--wav", self.folder / "yard.wav")]
+        calls += [(*YARD, "--filter", how, "--wav", self.folder / "yard.wav") for how in ("fixed", "float")]
         for files in (EXAMPLE, YARD):
             calls += [(*files, "--report"), (*files, "--ends", "--join=simple")]
         calls += [(*YARD, "--report", "--wav", self.folder / "yard.wav"), (*YARD, "--ends", "--join=none")]

@@ -19,7 +19,7 @@ HEAD = struct.Struct("<BB9H")
 VOICE_LIMIT, SHEET_LIMIT, TEXT_LIMIT = 32_768, 4_096, 41_000
 SPEAK_BUFFERS = 8_192, 4_096, 4_096, 2_048, 4_096, 1_024
 
-JOINS, FILTERS = ("none", "simple", "modified"), ("fixed", "float")
+JOINS, FILTERS = ("none", "simple", "modified"), (None, "fixed", "float")
 SETTINGS = {(join, how, fold) for join in JOINS for how in FILTERS for fold in (False, True)}
 SPEAK_SETTINGS = "simple", "fixed", False
 SLOPE, SHORT_BUFFER = 10, 13
@@ -49,9 +49,9 @@ def part(data, place, length):
 
 def settings_of(byte):
     join, how, fold = byte & 3, byte >> 2 & 3, byte >> 4
-    if join > 2 or how not in (1, 2) or fold > 1:
+    if join > 2 or how > 2 or fold > 1:
         raise ValueError(f"no settings {byte}")
-    return JOINS[join], FILTERS[how - 1], fold == 1
+    return JOINS[join], FILTERS[how], fold == 1
 
 
 def stored(data):
@@ -116,7 +116,7 @@ class Replay(unittest.TestCase):
     def by_player(self, call):
         """What the player prints; on standard error stand notes, or a refusal with a sentence behind its number."""
         join, how, fold = call.settings
-        words = ["--join", join, "--filter", how] + ["--fold"] * fold
+        words = ["--join", join] + (["--filter", how] if how else []) + ["--fold"] * fold
         status, text, message = self.run_on(call, PLAYER, "voice.flv", "call.sht", *words)
         if status == 0 and all(line.startswith(b"player: note: ") for line in message.splitlines()):
             return text

@@ -5,6 +5,7 @@ import unittest
 from pathlib import Path
 
 sys.path.insert(0, str(Path(__file__).resolve().parent.parent / "tools"))
+import cases
 import programs
 from programs import EXAMPLE, voice
 
@@ -26,6 +27,10 @@ class Speak(programs.Cases, unittest.TestCase):
         for what, data in programs.none():
             self.assertEqual(self.run_on(EXAMPLE[0], data), "8000 0 0\n", what)
         self.assertEqual(self.run_on(voice([0, 0]), EXAMPLE[1]), "8000 2 0\n1 0\n2 0\n")
+
+    def test_filter(self):
+        """The fixed one; by float a sample would be another."""
+        self.assertEqual(self.run_on(cases.example_with_rows(), EXAMPLE[1]), self.DOCUMENT)
 
 
 if __name__ == "__main__":

@@ -34,6 +34,12 @@ def with_backend(voice, text):
     return voice_of([(b"voice.backend", text)] + [s for s in sections_of(voice) if s[0] != b"voice.backend"])
 
 
+def example_with_rows():
+    """Document 01's example with small coefficients: 8, 132, 0, -8, -132 by the fixed filter; by float -7 stands for -8."""
+    residuals = [b"\xfe\xef", b"\xff\x7e\x6f"]
+    return formats.voice_file(formats.Header(order=1, coeff_range=16), [[10], [30]], residuals, [(b"pau-aa", 0, 1, 1)])
+
+
 def fit_voices(voice):
     """(what, bytes) of voices that open."""
     yield "as it is", voice

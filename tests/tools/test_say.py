@@ -11,6 +11,7 @@ from pathlib import Path
 from cases import REPO
 
 SAY = REPO / "tools/real/say"
+FILTERS = (), ("--filter", "float"), ("--filter=fixed",)
 
 
 def has_flite():
@@ -38,6 +39,7 @@ class CommandLine(unittest.TestCase):
             status, text, message = say(word)
             self.assertEqual((status, message), (0, ""))
             self.assertIn(b"Usage: tools/real/say ", text)
+            self.assertIn(b"as the player's; if no filter is named, one hears float\n", text)
         self.assertEqual(say("--voice", "list")[:2], (0, b"kal16  16 kHz, mu-law\nkal    8 kHz, G.721\n"))
 
     def test_wrong(self):
@@ -55,6 +57,10 @@ class CommandLine(unittest.TestCase):
             ("--pitch", "-5", "a"),
             ("--gain", "loud", "a"),
             ("--join", "other", "a"),
+            ("--filter", "other", "a"),
+            ("--filter=", "a"),
+            ("--filter", "-", "a"),
+            ("a", "--filter"),
             ("--raw", "--wav", "x", "a"),
         ]:
             status, text, message = say(*words)
@@ -105,6 +111,16 @@ class Say(unittest.TestCase):
         self.assertNotEqual(self.raw("Nine bins.", "--pitch=150"), plain)
         self.assertNotEqual(self.raw("Nine bins.", "--join=simple"), plain)
         self.assertNotEqual(self.raw("Nine bins.", "--gain=-6"), plain)
+
+    def test_filter(self):
+        """Without --filter as with float, in every join, and not as with fixed."""
+        for words in [(), ("--join=none",), ("--join=simple",), ("--join=modified", "--fold", "--gain=-6")]:
+            unnamed, named, fixed = (say("--raw", "Nine bins.", *words, *how) for how in FILTERS)
+            self.assertEqual(unnamed[0], 0)
+            self.assertTrue(unnamed == named, words)
+            self.assertEqual(unnamed == fixed, words == ("--join=none",), words)
+        unnamed, named, fixed = (say("--wav", "-", "--gain", "30", "Nine. Turn left.", *how) for how in FILTERS)
+        self.assertTrue(unnamed == named != fixed)
 
     def test_gain(self):
         """One gain for all sentences, that of the loudest."""

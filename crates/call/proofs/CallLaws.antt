@@ -38,7 +38,7 @@ use Rattle.lpc.proofs.FilterLaws.{by-append}
 use Rattle.call.specs.declared.JoinType.{JoinType}
 use Rattle.call.specs.declared.JoinType.the-variants.{None, Simple, ModifiedLpc}
 use Rattle.call.specs.declared.Settings.{Settings}
-use Rattle.call.specs.Call.{Plan, emptyPlan, simplePlan, modifiedPlan, planBy, planOf, isSimple, periodsTaken, periodsOf}
+use Rattle.call.specs.Call.{Plan, emptyPlan, simplePlan, modifiedPlan, planBy, planOf, isSimple, periodsTaken, filterIn, periodsOf}
 
 -- ---- what a call fills, cut up again, is the periods taken
 
@@ -65,9 +65,9 @@ taken-total v s o = sizes-total (v .header .order) (periodsTaken v s o) (periods
 unfoldable pub soundOf : ResynthType → Float → Float → List Period → List (List ℕ)
 soundOf t least range ps = periodsBy t least range (map partOf ps)
 
-pub sound-is : (v : Voice) (s : Sheet) (o : Settings) → periodsOf v s o ≡ soundOf (o .filter) (v .header .«coeff_min») (v .header .«coeff_range») (periodsTaken v s o)
+pub sound-is : (v : Voice) (s : Sheet) (o : Settings) → periodsOf v s o ≡ soundOf (filterIn o) (v .header .«coeff_min») (v .header .«coeff_range») (periodsTaken v s o)
 unfolding periodsOf soundOf
-sound-is v s o = ap (periodsBy (o .filter) (v .header .«coeff_min») (v .header .«coeff_range»)) (cut-filled (v .header .order) (periodsTaken v s o) (periods-sized v s o))
+sound-is v s o = ap (periodsBy (filterIn o) (v .header .«coeff_min») (v .header .«coeff_range»)) (cut-filled (v .header .order) (periodsTaken v s o) (periods-sized v s o))
 
 sound-heads : (t : ResynthType) (least range : Float) (ps qs : List Period) → Heads ps qs → Heads (soundOf t least range ps) (soundOf t least range qs)
 unfolding soundOf
@@ -190,9 +190,9 @@ module _ (v w : Voice) (x : Extends w v) (a : Opens v) (b : Opens w) (s t : Shee
       let q : Heads (periodsTaken w s o) (periodsTaken w t o) = taken-ahead w s t g r o p in
       let c = taken-periods-same v w x a b s o found in
       let d : Heads (periodsTaken v s o) (periodsTaken w t o) = rw c at q in
-      let z = sound-is w t o ∙ same-scales (o .filter) _ (v .header .«coeff_min») _ (v .header .«coeff_range») (periodsTaken w t o) (periodsTaken w t o) (x .coeffMin) (x .coeffRange) refl in
-      rw (sound-is v s o, z) (sound-heads (o .filter) (v .header .«coeff_min») (v .header .«coeff_range») (periodsTaken v s o) (periodsTaken w t o) d)
+      let z = sound-is w t o ∙ same-scales (filterIn o) _ (v .header .«coeff_min») _ (v .header .«coeff_range») (periodsTaken w t o) (periodsTaken w t o) (x .coeffMin) (x .coeffRange) refl in
+      rw (sound-is v s o, z) (sound-heads (filterIn o) (v .header .«coeff_min») (v .header .«coeff_range») (periodsTaken v s o) (periodsTaken w t o) d)
 
   pub periods-equal : periodsOf w s o ≡ periodsOf v s o
   periods-equal =
-      sound-is w s o ∙ same-scales (o .filter) _ _ _ _ (periodsTaken w s o) (periodsTaken v s o) (x .coeffMin) (x .coeffRange) (taken-periods-same v w x a b s o found) ∙ sym (sound-is v s o)
+      sound-is w s o ∙ same-scales (filterIn o) _ _ _ _ (periodsTaken w s o) (periodsTaken v s o) (x .coeffMin) (x .coeffRange) (taken-periods-same v w x a b s o found) ∙ sym (sound-is v s o)

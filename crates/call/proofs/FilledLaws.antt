@@ -28,7 +28,7 @@ use Rattle.lpc.proofs.FilterLaws as filter
 use Rattle.call.specs.declared.JoinType.{JoinType}
 use Rattle.call.specs.declared.JoinType.the-variants.{None, Simple, ModifiedLpc}
 use Rattle.call.specs.declared.Settings.{Settings}
-use Rattle.call.specs.Call.{simplePlan, modifiedPlan, planBy, planOf, isSimple, periodsTaken, partsOf, periodsOf}
+use Rattle.call.specs.Call.{simplePlan, modifiedPlan, planBy, planOf, isSimple, periodsTaken, partsOf, filterIn, periodsOf}
 use Rattle.call.specs.Buffers.{Buffers, filled, checkRefusal, callRefusal, summaryOf}
 use Rattle.call.specs.Machine.{bytesOfPeriods}
 use Rattle.call.proofs.CallLaws.{twoSegments, periods-sized}
@@ -95,7 +95,7 @@ module _ (v : Voice) (s : Sheet) (o : Settings) where
 
 pub periods-low : (v : Voice) (s : Sheet) (o : Settings) → Each (Below 65536) (periodsOf v s o)
 unfolding periodsOf
-periods-low v s o = filter.by-low (o .filter) (v .header .«coeff_min») (v .header .«coeff_range») (partsOf v (periodsTaken v s o))
+periods-low v s o = filter.by-low (filterIn o) (v .header .«coeff_min») (v .header .«coeff_range») (partsOf v (periodsTaken v s o))
 
 -- so the bytes of periods say their samples
 pub periods-back : (ps : List (List ℕ)) → Each (Below 65536) ps → elements 2 (bytesOfPeriods ps) ≡ flat (λ (p : List ℕ). p) ps

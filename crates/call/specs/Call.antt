@@ -18,10 +18,13 @@ use Rattle.marks.specs.PitchMarks.{pitchMarks, mostMarks}
 use Rattle.marks.specs.NaturalMarks.{naturalMarks, naturalUnits, markRefusal}
 use Rattle.excitation.specs.Taken.{Period, taken, sizesOf, rowsOf, excitationOf}
 use Rattle.lpc.specs.declared.ResynthType.{ResynthType}
+use Rattle.lpc.specs.declared.ResynthType.the-variants.{Float}
 use Rattle.lpc.specs.Filter.{Part, cut}
 use Rattle.lpc.specs.State.{periodsBy}
 use Rattle.call.specs.declared.JoinType.{JoinType}
 use Rattle.call.specs.declared.JoinType.the-variants.{None, Simple, ModifiedLpc}
+use Rattle.call.specs.declared.FilterSetting.{FilterSetting}
+use Rattle.call.specs.declared.FilterSetting.the-variants.{Unnamed, Named}
 use Rattle.call.specs.declared.Settings.{Settings}
 
 -- ---- the units and the marks of a join
@@ -71,9 +74,13 @@ periodsTaken v s o = taken (isSimple (o .join)) v (planOf v s o .units) (planOf 
 abbrev pub partsOf : Voice → List Period → List Part
 partsOf v ps = cut (v .header .order) (sizesOf ps) (rowsOf ps) (excitationOf ps)
 
--- the filter that a call ends up with
+-- the filter that a call ends up with: the one that it names, else float (document 02, A5)
+abbrev pub filterBy : FilterSetting → ResynthType
+filterBy Unnamed = Float
+filterBy (Named f) = f
+
 abbrev pub filterIn : Settings → ResynthType
-filterIn o = o .filter
+filterIn o = filterBy (o .filter)
 
 -- the periods of samples of a call, each sample a word of 16 bits
 unfoldable pub periodsOf : Voice → Sheet → Settings → List (List ℕ)

@@ -3,19 +3,20 @@ use mathlib.Core.Bool.{Bool}
 use Prim.Native.Nat.{ℕ, _/_, _%_}
 use lib.Dec.{eqb}
 use Rattle.base.specs.Choice.{pick}
-use Rattle.lpc.specs.declared.ResynthType.{ResynthType}
 use Rattle.lpc.specs.declared.ResynthType.the-variants.{Fixed, Float}
 use Rattle.call.specs.declared.JoinType.{JoinType}
 use Rattle.call.specs.declared.JoinType.the-variants.{None, Simple, ModifiedLpc}
+use Rattle.call.specs.declared.FilterSetting.{FilterSetting}
+use Rattle.call.specs.declared.FilterSetting.the-variants.{Unnamed, Named}
 use Rattle.call.specs.declared.Settings.{Settings}
 
 -- bits 0 and 1: join 0 none, 1 simple, 2 and 3 modified
 unfoldable pub joinOf : ℕ → JoinType
 joinOf n = pick (eqb n 0) None (pick (eqb n 1) Simple ModifiedLpc)
 
--- bits 2 and 3: filter 1 fixed; 0, 2 and 3 float
-unfoldable pub filterOf : ℕ → ResynthType
-filterOf n = pick (eqb n 1) Fixed Float
+-- bits 2 and 3: filter 0 not named, 1 fixed, 2 and 3 float
+unfoldable pub filterOf : ℕ → FilterSetting
+filterOf n = pick (eqb n 0) Unnamed (Named (pick (eqb n 1) Fixed Float))
 
 -- bit 4: fold; the bits above it mean nothing
 abbrev pub foldOf : ℕ → Bool

@@ -13,9 +13,15 @@ pub enum JoinType {
     ModifiedLpc,
 }
 
+// The filter that a call names, if it names one.
+pub enum FilterSetting {
+    Unnamed,
+    Named(ResynthType),
+}
+
 pub struct Settings {
     pub join: JoinType,
-    pub filter: ResynthType,
+    pub filter: FilterSetting,
     pub fold: bool,
 }
 
@@ -39,14 +45,15 @@ fn join_of(n: u32) -> JoinType
     JoinType::ModifiedLpc
 }
 
-// The filter of a number: 1 fixed, any other float.
-fn filter_of(n: u32) -> ResynthType
+// The filter of a number: 0 not named, 1 fixed, any other float.
+fn filter_of(n: u32) -> FilterSetting
     ensures { λ r. ⌜ r ≡ numbers.filterOf n ⌝ }
 {
-    if n == 1 {
-        return ResynthType::Fixed;
+    match n {
+        0 => FilterSetting::Unnamed,
+        1 => FilterSetting::Named(ResynthType::Fixed),
+        _ => FilterSetting::Named(ResynthType::Float),
     }
-    ResynthType::Float
 }
 
 // The settings of a word: bits 0 and 1 the join, bits 2 and 3 the filter, bit 4 fold.
@@ -64,7 +71,11 @@ pub fn settings_of(word: u32) -> Settings
 pub fn filter_in(settings: Settings) -> ResynthType
     ensures { λ r. ⌜ r ≡ filterIn settings ⌝ }
 {
-    settings.filter
+    let filter = settings.filter;
+    match filter {
+        FilterSetting::Unnamed => ResynthType::Float,
+        FilterSetting::Named(named) => named,
+    }
 }
 
 // How many elements each buffer of a call must have.

@@ -32,7 +32,7 @@ use Rattle.lpc.specs.State.{periodsBy}
 use Rattle.call.specs.declared.JoinType.{JoinType}
 use Rattle.call.specs.declared.JoinType.the-variants.{None, Simple, ModifiedLpc}
 use Rattle.call.specs.declared.Settings.{Settings}
-use Rattle.call.specs.Call.{Plan, simplePlan, planBy, planOf, isSimple, periodsTaken, partsOf, periodsOf}
+use Rattle.call.specs.Call.{Plan, simplePlan, planBy, planOf, isSimple, periodsTaken, partsOf, filterIn, periodsOf}
 use Rattle.call.proofs.CallLaws.{cut-filled, soundOf, twoSegments}
 use Rattle.reporting.specs.Report.{Line, linesOf, reportOf}
 use Rattle.reporting.proofs.NumberLaws.{Numbered, units-numbered}
@@ -168,7 +168,7 @@ module _ (v : Voice) where
 
       pub samples-kept : periodsOf v s o ≡ oldSamples v s o
       unfolding periodsOf oldSamples
-      samples-kept = periods-kept .samples (o .filter) (v .header .«coeff_min») (v .header .«coeff_range»)
+      samples-kept = periods-kept .samples (filterIn o) (v .header .«coeff_min») (v .header .«coeff_range»)
 
       pub report-kept : KeptLines (changed v s o) (oldReport v s o) (reportOf v s o)
       unfolding changed oldReport reportOf linesOf

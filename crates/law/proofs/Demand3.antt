@@ -22,7 +22,7 @@ use Rattle.excitation.specs.Taken.{sizesOf, rowsOf}
 use Rattle.excitation.proofs.SizedLaws.{rows-length}
 use Rattle.lpc.specs.declared.FilterState.{FilterState}
 use Rattle.call.specs.declared.Settings.{Settings}
-use Rattle.call.specs.Call.{planOf, periodsTaken, periodsOf, samplesOfCall}
+use Rattle.call.specs.Call.{planOf, periodsTaken, filterIn, periodsOf, samplesOfCall}
 use Rattle.call.specs.declared.Summary.{Summary}
 use Rattle.call.specs.declared.Called.{Called}
 use Rattle.call.specs.declared.Called.the-variants.{Spoken}
@@ -66,7 +66,7 @@ whole-lists c ds =
     let r : length (rowsOf ps) ≡ length (sizesOf ps) * v .header .order = rows-taken c in
     rw (lent-filled c)
     (ap (λ (s : FilterState). pulls s (lentTaken c) ds) (fresh c)
-    ∙ fresh-machine (c .settings .filter) (v .header .order) (v .header .«coeff_min») (v .header .«coeff_range») (lentTaken c) ds (o .orderLow) (o .leastIn) (o .rangeIn) (le-of-eq (sym r)))
+    ∙ fresh-machine (filterIn (c .settings)) (v .header .order) (v .header .«coeff_min») (v .header .«coeff_range») (lentTaken c) ds (o .orderLow) (o .leastIn) (o .rangeIn) (le-of-eq (sym r)))
 
 -- 'what they wrote, joined in order, is the samples of as many periods as they gave, from the first on'
 pub whole-lists-written : (c : SpokenCall) (ds : List (List ℕ)) → written (pullsAfter c ds) ≡ bytesOfPeriods (take (given (pullsAfter c ds)) (periodsIn c))
@@ -192,7 +192,7 @@ made-pulls b s _ _ (more {ds} {os} κs _ sizes rows excitation samples r left hz
     rw (i, d, a, hz, hr, he)
 
 -- A call of `diphone::plan`, known by its contract, is the definition's.
-plan-made : (file sheet : List ℕ) (o : Settings) (b after : Buffers) (r : Planned) → PlanMade file sheet o b r after → (r ≡ plannedOf file sheet o b) × (after ≡ buffersAfter file sheet o b)
+pub plan-made : (file sheet : List ℕ) (o : Settings) (b after : Buffers) (r : Planned) → PlanMade file sheet o b r after → (r ≡ plannedOf file sheet o b) × (after ≡ buffersAfter file sheet o b)
 plan-made _ _ _ _ _ _ (made κs voice sheet l o r after post) = (post .0, post .1)
 
 answer-none : (v : Voice) (s : Sheet) (o : Settings) (m : Summary) (u : Option Refusal) → answerBy v s o u .answer ≡ Spoken m → u ≡ nothing

@@ -20,7 +20,7 @@ use Rattle.excitation.specs.Taken.{Period, sizesOf}
 use Rattle.lpc.specs.declared.FilterState.{FilterState}
 use Rattle.call.specs.declared.Settings.{Settings}
 use Rattle.call.specs.declared.Summary.{Summary}
-use Rattle.call.specs.Call.{periodsTaken}
+use Rattle.call.specs.Call.{periodsTaken, filterIn}
 use Rattle.call.specs.Buffers.{callRefusal, summaryOf, filled, overAll, buffersAfter, freshOf}
 use Rattle.call.specs.Pull.{Lent, lentOf, allGiven, possible, nextPart, Outcome, leaves, pullOf, pullNumber}
 use Rattle.call.specs.Machine.{Shown, pulls}
@@ -83,7 +83,7 @@ pulls-in-c b _ s _ _ held z e (more {ds} {os} κs state sizes rows excitation sa
 -- ---- the call
 
 -- A call of `diphone_plan`, known by its contract, is the definition's.
-plan-in-c : (file sheet : List ℕ) (o : Settings) (h : Handed) (r : ℕ) (after : Handed) → PlanMadeInC file sheet o h r after
+pub plan-in-c : (file sheet : List ℕ) (o : Settings) (h : Handed) (r : ℕ) (after : Handed) → PlanMadeInC file sheet o h r after
     → PlanEnds file sheet o h r after
 plan-in-c _ _ _ _ _ _ (made κs voice sheet settings l state summary r after post) = (post .0, post .1)
 
@@ -116,7 +116,7 @@ module _ (c : SpokenCall) where
   unfolding freshOf
   first-storable =
       let h = voiceIn c .header in
-      fresh-storable (h .order) (h .«coeff_min») (h .«coeff_range») (c .settings .filter) (opened c .orderLow) (scales-fit .0) (scales-fit .1)
+      fresh-storable (h .order) (h .«coeff_min») (h .«coeff_range») (filterIn (c .settings)) (opened c .orderLow) (scales-fit .0) (scales-fit .1)
 
   order-told : told .order ≤ 32
   unfolding summaryOf

@@ -6,10 +6,11 @@ use mathlib.Core.Option.{none as nothing}
 use Prim.Native.Nat.{ℕ, _+_}
 use native.Mathlib.Omega.{arith}
 use lib.ListN.{replicate}
-use Rattle.lpc.specs.declared.ResynthType.{ResynthType}
 use Rattle.lpc.specs.declared.ResynthType.the-variants.{Fixed, Float}
 use Rattle.call.specs.declared.JoinType.{JoinType}
 use Rattle.call.specs.declared.JoinType.the-variants.{None, Simple, ModifiedLpc}
+use Rattle.call.specs.declared.FilterSetting.{FilterSetting}
+use Rattle.call.specs.declared.FilterSetting.the-variants.{Unnamed, Named}
 use Rattle.call.specs.declared.Settings.{Settings}
 use Rattle.call.specs.Numbers.{joinOf, filterOf, settingsOf}
 use Rattle.call.specs.Machine.{Shown}
@@ -29,9 +30,10 @@ joinBits None = 0
 joinBits Simple = 1
 joinBits ModifiedLpc = 2
 
-abbrev filterBits : ResynthType → ℕ
-filterBits Fixed = 4
-filterBits Float = 8
+abbrev filterBits : FilterSetting → ℕ
+filterBits Unnamed = 0
+filterBits (Named Fixed) = 4
+filterBits (Named Float) = 8
 
 abbrev foldBit : Bool → ℕ
 foldBit false = 0
@@ -40,20 +42,26 @@ foldBit true = 16
 abbrev wordOf : Settings → ℕ
 wordOf o = joinBits (o .join) + (filterBits (o .filter) + foldBit (o .fold))
 
-said : (j : JoinType) (f : ResynthType) (b : Bool) → settingsOf (joinBits j + (filterBits f + foldBit b)) ≡ record { join = j; filter = f; fold = b }
+said : (j : JoinType) (f : FilterSetting) (b : Bool) → settingsOf (joinBits j + (filterBits f + foldBit b)) ≡ record { join = j; filter = f; fold = b }
 unfolding settingsOf joinOf filterOf
-said None Fixed false = refl
-said None Fixed true = refl
-said None Float false = refl
-said None Float true = refl
-said Simple Fixed false = refl
-said Simple Fixed true = refl
-said Simple Float false = refl
-said Simple Float true = refl
-said ModifiedLpc Fixed false = refl
-said ModifiedLpc Fixed true = refl
-said ModifiedLpc Float false = refl
-said ModifiedLpc Float true = refl
+said None Unnamed false = refl
+said None Unnamed true = refl
+said None (Named Fixed) false = refl
+said None (Named Fixed) true = refl
+said None (Named Float) false = refl
+said None (Named Float) true = refl
+said Simple Unnamed false = refl
+said Simple Unnamed true = refl
+said Simple (Named Fixed) false = refl
+said Simple (Named Fixed) true = refl
+said Simple (Named Float) false = refl
+said Simple (Named Float) true = refl
+said ModifiedLpc Unnamed false = refl
+said ModifiedLpc Unnamed true = refl
+said ModifiedLpc (Named Fixed) false = refl
+said ModifiedLpc (Named Fixed) true = refl
+said ModifiedLpc (Named Float) false = refl
+said ModifiedLpc (Named Float) true = refl
 
 -- ---- the calls
 

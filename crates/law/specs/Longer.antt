@@ -10,7 +10,8 @@ use Rattle.call.specs.declared.Settings.{Settings}
 use Rattle.call.specs.Call.{filterIn}
 use Rattle.call.specs.SpokenCall.{SpokenCall, voiceIn, sheetIn}
 
--- 'under the same settings': the join, the filter that a call ends up with, and fold
+-- 'under the same settings': the join, the filter that a call ends up with, and fold (document 02, A5: 'calls that end up with one filter,
+-- their other settings the same')
 pub record SameSettings (p o : Settings) : Type 0 where
   pub join : p .join ≡ o .join
   pub filter : filterIn p ≡ filterIn o

@@ -21,6 +21,7 @@ use Rattle.call.specs.declared.Need.{Need}
 use Rattle.call.specs.declared.Summary.{Summary}
 use Rattle.call.specs.declared.Called.the-variants.{Spoken}
 use Rattle.call.specs.declared.Planned.{Planned}
+use Rattle.call.specs.Call.{filterIn}
 use Rattle.call.specs.Buffers.{Buffers, needOf, holds, lengthsOf, fits, filled, checkRefusal, callRefusal, summaryOf, freshOf, refusedBy, answerBy, plannedOf, overAll, buffersAfter}
 use Rattle.checking.specs.declared.Fit.{Fit}
 use Rattle.checking.specs.declared.Checked.{Checked}
@@ -85,20 +86,20 @@ module _ (file sheet : List ℕ) (o : Settings) (f : Fit) (h : Passes file sheet
   unfolding summaryOf needOf
   summary-is = refl
 
-  fresh-is : freshOf (voiceOf file) o ≡ freshState (o .filter) (voiceOf file .header .order) (voiceOf file .header .«coeff_min») (voiceOf file .header .«coeff_range»)
+  fresh-is : freshOf (voiceOf file) o ≡ freshState (filterIn o) (voiceOf file .header .order) (voiceOf file .header .«coeff_min») (voiceOf file .header .«coeff_range»)
   unfolding freshOf
   fresh-is = refl
 
   pub spoken-ends : (s : Summary) (t : FilterState) (after : Buffers) → fits (voiceOf file) (sheetOf sheet) o b ≡ true
       → s ≡ summaryBy (f .voice .header .rate) (f .voice .header .order) (f .need)
-      → t ≡ freshState (o .filter) (f .voice .header .order) (f .voice .header .«coeff_min») (f .voice .header .«coeff_range»)
+      → t ≡ freshState (filterIn o) (f .voice .header .order) (f .voice .header .«coeff_min») (f .voice .header .«coeff_range»)
       → after ≡ overAll (filled (voiceOf file) (sheetOf sheet) o) b
       → (record { answer = Spoken s; state = t } ≡ plannedOf file sheet o b) × (after ≡ buffersAfter file sheet o b)
   spoken-ends s t after e x y z =
       let n = whole-call file sheet o b (h .passed) e in
       let i = header-is file (f .voice) (h .opened .places) in
       let a : s ≡ summaryOf (voiceOf file) (sheetOf sheet) o = x ∙ sym (by-header (f .voice .header) (f .need) i (h .need)) in
-      let c : t ≡ freshOf (voiceOf file) o = y ∙ sym (fresh-is ∙ ap (λ (k : VoiceHeader). freshState (o .filter) (k .order) (k .«coeff_min») (k .«coeff_range»)) i) in
+      let c : t ≡ freshOf (voiceOf file) o = y ∙ sym (fresh-is ∙ ap (λ (k : VoiceHeader). freshState (filterIn o) (k .order) (k .«coeff_min») (k .«coeff_range»)) i) in
       (both a c ∙ sym (spoken-planned file sheet o b n), z ∙ sym (spoken-buffers file sheet o b n))
     where
       by-header : (k : VoiceHeader) (q : Need) → voiceOf file .header ≡ k → q ≡ needOf (voiceOf file) (sheetOf sheet) o

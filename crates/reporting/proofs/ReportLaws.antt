@@ -38,7 +38,7 @@ use Rattle.lpc.proofs.FilterLaws.{length-samples}
 use Rattle.call.specs.declared.JoinType.{JoinType}
 use Rattle.call.specs.declared.JoinType.the-variants.{None, Simple, ModifiedLpc}
 use Rattle.call.specs.declared.Settings.{Settings}
-use Rattle.call.specs.Call.{Plan, simplePlan, modifiedPlan, planBy, planOf, isSimple, periodsTaken, periodsOf, samplesOfCall}
+use Rattle.call.specs.Call.{Plan, simplePlan, modifiedPlan, planBy, planOf, isSimple, periodsTaken, filterIn, periodsOf, samplesOfCall}
 use Rattle.call.specs.Buffers.{checkRefusal}
 use Rattle.call.proofs.CallLaws.{twoSegments, periods-sized, partOf, soundOf, sound-is, taken-total}
 use Rattle.filling.proofs.JoinLaws.{open-rate, join-rises}
@@ -182,7 +182,7 @@ module _ (v : Voice) (s : Sheet) (o : Settings) where
   unfolding soundOf
   periods-lengths =
       ap (map length) (sound-is v s o)
-      ∙ by-lengths (o .filter) (v .header .«coeff_min») (v .header .«coeff_range») (map partOf (periodsTaken v s o))
+      ∙ by-lengths (filterIn o) (v .header .«coeff_min») (v .header .«coeff_range») (map partOf (periodsTaken v s o))
       ∙ sized-lengths (v .header .order) (periodsTaken v s o) (periods-sized v s o)
 
   pub as-many-lines : length (reportOf v s o) ≡ length (periodsTaken v s o)

@@ -9,13 +9,14 @@ use Rattle.refusal.specs.declared.Refusal.the-variants.{ShortBuffer}
 use Rattle.refusal.specs.Number.{numberOf}
 use Rattle.lpc.specs.declared.ResynthType.the-variants.{Fixed}
 use Rattle.call.specs.declared.JoinType.the-variants.{Simple}
+use Rattle.call.specs.declared.FilterSetting.the-variants.{Named}
 use Rattle.call.specs.declared.Settings.{Settings}
 use Rattle.call.specs.Buffers.{Buffers, lent}
 use Rattle.lines.specs.Lines.{refused}
 
 -- 'with simple join, fixed filter, no fold'
 abbrev pub programSettings : Settings
-programSettings = record { join = Simple; filter = Fixed; fold = false }
+programSettings = record { join = Simple; filter = Named Fixed; fold = false }
 
 -- 'It starts from an excitation buffer of 4,096 bytes, all 255; .. its others 1,024 each': elements of 8, 4, 4, 2, 1 and 1 bytes
 abbrev pub programBuffers : Buffers

@@ -78,7 +78,7 @@ fn read(name: &str, bytes: &[u8]) -> Sheet {
 fn settings(only: Option<&str>) -> Vec<Settings> {
     let mut all = Vec::new();
     for join in [Join::Simple, Join::Modified] {
-        for filter in FILTERS {
+        for filter in FILTERS.map(Some) {
             all.push(Settings { join, filter, fold: false });
         }
     }
@@ -88,12 +88,12 @@ fn settings(only: Option<&str>) -> Vec<Settings> {
 
 fn fixed() -> Vec<Settings> {
     let mut all = settings(None);
-    all.retain(|settings| settings.filter == Filter::Fixed);
+    all.retain(|settings| settings.filter_in() == Filter::Fixed);
     all
 }
 
 fn label(settings: Settings) -> String {
-    format!("{:?}-{:?}", settings.join, settings.filter).to_lowercase()
+    format!("{:?}-{:?}", settings.join, settings.filter_in()).to_lowercase()
 }
 
 /// A line for each pair of parts that do the same.

@@ -116,11 +116,7 @@ impl Timed {
             Guarded::new(rng, length)
         });
         assert_eq!(archive::plan(&request, &mut buffers), 0, "plan");
-        let lent = Lent {
-            sizes: buffers[2].bytes().to_vec(),
-            rows: buffers[3].bytes().to_vec(),
-            excitation: buffers[4].bytes().to_vec(),
-        };
+        let lent = Lent::of(&buffers);
         let rust = DiphoneVoice::parse(voice).expect("a voice");
         let params = reference::params(&rust, settings);
         let mut timed = Timed {
@@ -171,7 +167,7 @@ impl Timed {
         costs.time(Part::RustPrepare, || prepare(rust, utt, settings.join));
         let mut state = self.fresh.clone();
         costs.time(Part::Pulls, || while archive::pull(&mut state, &self.lent, &mut self.slice) >= 0 {});
-        costs.time(Part::RustFilter, || filter(rust, &self.excitation, settings.filter));
+        costs.time(Part::RustFilter, || filter(rust, &self.excitation, settings.filter_in()));
         costs.time(Part::Need, || archive::need(&request, &mut self.need));
         costs.time(Part::RustWhole, || {
             let rust = DiphoneVoice::parse(voice).expect("a voice");

@@ -143,7 +143,7 @@ fn alternating() -> Vec<(String, usize)> {
 }
 
 fn called(name: &str, voice: &[u8], sheet: &Sheet, rounds: usize) {
-    let settings = Settings { join: Join::Simple, filter: Filter::Fixed, fold: false };
+    let settings = Settings { join: Join::Simple, filter: Some(Filter::Fixed), fold: false };
     let rng = &mut Rng::new(1);
     let bytes = sheet::write(sheet);
     let request = request(voice, &bytes, settings);

@@ -137,6 +137,17 @@ pub struct Lent {
     pub excitation: Vec<u8>,
 }
 
+impl Lent {
+    pub fn of(buffers: &[Guarded; 8]) -> Lent {
+        let [sizes, rows, excitation] = [2, 3, 4].map(|i| buffers[i].bytes().to_vec());
+        Lent {
+            sizes,
+            rows,
+            excitation,
+        }
+    }
+}
+
 pub fn pull(state: &mut Guarded, lent: &Lent, samples: &mut Guarded) -> i64 {
     let Lent {
         sizes,

@@ -53,21 +53,23 @@ impl Generator {
     /// Every other call is of any extent; the rest are small, of each kind in
     /// turn.
     pub fn call(&self, rng: &mut Rng, case: u64) -> Call {
-        let kind = self.kinds[(case / 2) as usize % self.kinds.len()];
         let small = match case % 2 {
             0 => None,
-            _ => self.small(rng, kind, case),
+            _ => self.small(rng, case),
         };
         small.unwrap_or_else(|| good(rng, case))
     }
 
-    fn small(&self, rng: &mut Rng, kind: Kind, case: u64) -> Option<Call> {
+    fn small(&self, rng: &mut Rng, case: u64) -> Option<Call> {
+        let number = case / 2;
+        let kind = self.kinds[number as usize % self.kinds.len()];
+        let round = number / self.kinds.len() as u64;
         let draft = (0..MOST_DRAWS).find_map(|_| {
-            let draft = draft(rng, kind, &self.limits)?;
+            let draft = draft(rng, kind, &self.limits)?.in_round(round);
             is_of(rng, kind, &draft).then_some(draft)
         })?;
         Some(Call {
-            about: format!("case {case}, {kind:?} {}", draft.reason),
+            about: format!("case {case}, {kind:?} in round {round} {}", draft.reason),
             voice: draft.voice,
             sheet: draft.sheet,
             settings: draft.settings,
@@ -86,14 +88,15 @@ fn is_of(rng: &mut Rng, kind: Kind, draft: &Draft) -> bool {
     given.is_some_and(|given| kinds::is_of(rng, kind, &draft.voice, &given, number(&given)))
 }
 
-/// Mostly calls that speak.
+/// Mostly calls that speak. Half of them name fixed, a quarter no filter.
 fn settings(rng: &mut Rng) -> Settings {
+    use Filter::{Fixed, Float};
     use Join::{Modified, None, Simple};
     Settings {
         join: rng.pick(&[
             None, Simple, Simple, Simple, Modified, Modified, Modified, Modified,
         ]),
-        filter: rng.pick(&[Filter::Fixed, Filter::Float]),
+        filter: rng.pick(&[Some(Fixed), Some(Float), Some(Fixed), Option::None]),
         fold: rng.once_in(2),
     }
 }

@@ -1,7 +1,7 @@
 //! What a run of `oracle calls` met.
 
 use super::machine::{DONE, IMPOSSIBLE, SHORT_SLICE};
-use crate::call::{Filter, Settings, JOINS};
+use crate::call::{Settings, JOINS, NAMED};
 use crate::expected::{Spoken, SHORT_BUFFER};
 use crate::report::Report;
 use crate::taking::Tally;
@@ -11,12 +11,19 @@ use crate::voicefile::Voice;
 type ByNumber = [u64; SHORT_BUFFER + 1];
 
 /// The settings and the sorts of voices; the last is of `sts.ressize`.
-const HALVES: [[&str; 2]; 4] = [
-    ["fixed", "float"],
-    ["fold off", "on"],
-    ["mu-law", "G.721"],
-    ["without sizes", "with"],
+const SORTS: [&[&str]; 4] = [
+    &["fixed", "float", "not named"],
+    &["fold off", "on"],
+    &["mu-law", "G.721"],
+    &["without sizes", "with"],
 ];
+
+/// Calls by the settings and the sorts of voices.
+type BySort = [[u64; NAMED.len()]; SORTS.len()];
+
+/// What was made twice, with no filter named and with float named: calls, plans
+/// and pulls.
+const PAIRS: [&str; 4] = ["spoken", "refused", "plans", "pulls"];
 
 /// What is counted of the taking of marks. The list is that of the simple join.
 const TALLIES: [&str; 10] = [
@@ -51,9 +58,9 @@ fn counted(tally: &Tally) -> [usize; TALLIES.len()] {
 pub struct Counts {
     accepted: u64,
     joins: [u64; 3],
-    halves: [[u64; 2]; HALVES.len()],
+    sorts: BySort,
     /// The same of those with rows that are not the Rust's.
-    changed: [[u64; 2]; HALVES.len()],
+    changed: BySort,
     /// Those of the accepted calls that have a period.
     speaking: u64,
     refused: ByNumber,
@@ -73,6 +80,7 @@ pub struct Counts {
     done: u64,
     short_slices: u64,
     impossible: u64,
+    pairs: [u64; PAIRS.len()],
     /// Calls that the Rust would take too long for.
     pub not_compared: u64,
 }
@@ -84,12 +92,13 @@ impl Counts {
         self.marks += spoken.needed[1] as u64;
         let join = JOINS.iter().position(|join| *join == settings.join);
         self.joins[join.unwrap_or(0)] += 1;
-        let is_float = settings.filter == Filter::Float;
-        let second = [is_float, settings.fold, voice.is_g721(), voice.has_sizes()];
+        let filter = NAMED.iter().position(|named| *named == settings.filter);
+        let [fold, g721, sizes] = [settings.fold, voice.is_g721(), voice.has_sizes()];
+        let sorts = [filter.unwrap_or(0), fold.into(), g721.into(), sizes.into()];
         let is_changed = spoken.tally.rows > 0;
-        for (i, second) in second.map(usize::from).into_iter().enumerate() {
-            self.halves[i][second] += 1;
-            self.changed[i][second] += u64::from(is_changed);
+        for (i, sort) in sorts.into_iter().enumerate() {
+            self.sorts[i][sort] += 1;
+            self.changed[i][sort] += u64::from(is_changed);
         }
     }
 
@@ -120,6 +129,13 @@ impl Counts {
         }
     }
 
+    /// What was made twice of one more call.
+    pub fn pairs(&mut self, more: [usize; PAIRS.len()]) {
+        for (sum, more) in self.pairs.iter_mut().zip(more) {
+            *sum += more as u64;
+        }
+    }
+
     pub fn pull(&mut self, answer: i64) {
         self.pulls += 1;
         self.done += u64::from(answer == DONE);
@@ -145,12 +161,15 @@ impl Counts {
         for (what, [calls, _]) in TALLIES.iter().zip(self.tallies) {
             report.check(calls > 0, || format!("{what}: not reached"));
         }
-        let changed = self.changed.as_flattened();
-        report.check(changed.iter().all(|count| *count > 0), || {
-            format!(
-                "calls with rows that are not the Rust's: {}",
-                halves(&self.changed)
-            )
+        let mut changed = SORTS.iter().zip(&self.changed);
+        let met = changed.all(|(names, counts)| !counts[..names.len()].contains(&0));
+        report.check(met, || {
+            let changed = sorted(&self.changed);
+            format!("calls with rows that are not the Rust's: {changed}")
+        });
+        report.check(!self.pairs.contains(&0), || {
+            let pairs = named(&PAIRS, &self.pairs);
+            format!("made with no filter named and with float: {pairs}")
         });
         let answered = self.reports.iter().all(|count| *count > 0);
         report.check(answered, || {
@@ -165,7 +184,7 @@ impl Counts {
             "  accepted: {}, of them {} with periods; join none {none}, simple {simple}, modified {modified}",
             self.accepted, self.speaking
         );
-        println!("    {}", halves(&self.halves));
+        println!("    {}", sorted(&self.sorts));
         println!("  refused: {}", numbered(&self.refused));
         println!("  needs by answer: {}", numbered(&self.needs));
         println!("  plans by answer: {}", numbered(&self.plans));
@@ -177,6 +196,10 @@ impl Counts {
         println!(
             "  pulls: {}, of them done {}, -14 {}, -15 {}",
             self.pulls, self.done, self.short_slices, self.impossible
+        );
+        println!(
+            "  made with no filter named and with float named: {}",
+            named(&PAIRS, &self.pairs)
         );
         println!(
             "  not compared, as the Rust would take long: {}",
@@ -193,17 +216,22 @@ impl Counts {
         for (what, [calls, count]) in TALLIES.iter().zip(self.tallies) {
             println!("    {what}: {count} in {calls} calls");
         }
-        println!("    calls with such rows: {}", halves(&self.changed));
+        println!("    calls with such rows: {}", sorted(&self.changed));
     }
 }
 
-fn halves(counts: &[[u64; 2]; HALVES.len()]) -> String {
-    let half = |(names, counts): (&[&str; 2], &[u64; 2])| {
-        let ([a, b], [first, second]) = (names, counts);
-        format!("{a} {first}, {b} {second}")
-    };
-    let shown: Vec<String> = HALVES.iter().zip(counts).map(half).collect();
+fn sorted(counts: &BySort) -> String {
+    let sorts = SORTS.iter().zip(counts);
+    let shown: Vec<String> = sorts.map(|(names, counts)| named(names, counts)).collect();
     shown.join("; ")
+}
+
+fn named(names: &[&str], counts: &[u64]) -> String {
+    let named = names.iter().zip(counts);
+    let shown: Vec<String> = named
+        .map(|(name, count)| format!("{name} {count}"))
+        .collect();
+    shown.join(", ")
 }
 
 fn numbered(counts: &ByNumber) -> String {

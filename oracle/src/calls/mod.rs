@@ -11,6 +11,7 @@ mod odd_states;
 mod planning;
 mod pulling;
 mod reporting;
+mod unnamed;
 
 use crate::args::Args;
 use crate::call::Settings;
@@ -73,19 +74,24 @@ pub fn check(rng: &mut Rng, call: &Call, bench: &mut Bench) {
         marks: usize::MAX,
         samples: usize::MAX,
     };
-    // Drawn from a copy: what the report draws moves no draw after it.
+    // Drawn from a copy: what the report and the pair draw moves no draw after
+    // it.
     let own = &mut rng.clone();
-    match expected::given(&call.voice, &call.sheet, call.settings, any) {
+    let given = expected::given(&call.voice, &call.sheet, call.settings, any);
+    match &given {
         None => bench.counts.not_compared += 1,
         Some(Given::Refused(refusal)) => {
-            planning::refused(rng, call, refusal, bench);
-            reporting::refused(own, call, refusal, bench);
+            planning::refused(rng, call, *refusal, bench);
+            reporting::refused(own, call, *refusal, bench);
         }
         Some(Given::Spoken(spoken)) => {
             let voice = voicefile::open(&call.voice).expect("a voice that was opened before");
-            planning::spoken(rng, call, &voice, &spoken, bench);
-            reporting::spoken(own, call, &spoken, bench);
+            planning::spoken(rng, call, &voice, spoken, bench);
+            reporting::spoken(own, call, spoken, bench);
         }
+    }
+    if let (None, Some(given)) = (call.settings.filter, &given) {
+        unnamed::compare(own, call, given, bench);
     }
     let same = kept[0] == call.voice && kept[1] == call.sheet;
     bench

@@ -33,16 +33,16 @@ fn width(buffer: usize) -> usize {
     }
 }
 
-/// The settings as a word, in one of its forms: 3 is the modified join too, 0
-/// and 3 of the filter's bits are float too, and bits from 5 on mean nothing.
+/// The settings as a word, in one of its forms: 3 is the modified join too, 3
+/// of the filter's bits is float too, and bits from 5 on mean nothing.
 pub fn request<'a>(rng: &mut Rng, call: &'a Call) -> Request<'a> {
     let settings = call.settings;
     let mut word = settings.word();
     if settings.join == Join::Modified {
         word |= rng.pick(&[0, 0, 0, 1]);
     }
-    if settings.filter == Filter::Float {
-        word = word & !12 | rng.pick(&[8, 8, 0, 12]);
+    if settings.filter == Some(Filter::Float) {
+        word |= rng.pick(&[0, 0, 0, 4]);
     }
     word |= rng.pick(&[0, 0, 0, 32, 256, u32::MAX << 5]);
     Request {
@@ -78,25 +78,21 @@ pub fn spoken(rng: &mut Rng, call: &Call, voice: &Voice, spoken: &Spoken, bench:
     for length in [NEED_BYTES - 1, rng.below(NEED_BYTES), 0] {
         need(rng, &request, length, Err(SHORT_BUFFER), about, bench);
     }
-    let state = State::fresh(&voice.header, call.settings.filter);
+    let state = State::fresh(&voice.header, call.settings.filter_in());
     let new = filled(spoken, &state);
     for short in 0..8 {
-        if let Some(lengths) = lengths(rng, spoken, Room::Short(short)) {
+        if let Some(lengths) = lengths(rng, &spoken.needed, Room::Short(short)) {
             let about = format!("{about}: {} too short", name(short));
             plan(rng, &request, lengths, Err(SHORT_BUFFER), &about, bench);
         }
     }
     plan(rng, &request, [0; 8], Err(SHORT_BUFFER), about, bench);
     for room in [Room::Longer, Room::Exact] {
-        let lengths = lengths(rng, spoken, room).expect("no buffer is short");
+        let lengths = lengths(rng, &spoken.needed, room).expect("no buffer is short");
         let buffers = plan(rng, &request, lengths, Ok(&new), about, bench);
         if room == Room::Exact {
-            let [_, _, sizes, rows, excitation, _, state, _] = buffers;
-            let lent = Lent {
-                sizes: sizes.bytes().to_vec(),
-                rows: rows.bytes().to_vec(),
-                excitation: excitation.bytes().to_vec(),
-            };
+            let lent = Lent::of(&buffers);
+            let [.., state, _] = buffers;
             pulling::all(rng, about, &spoken.periods, state, &lent, bench);
         }
     }
@@ -113,10 +109,10 @@ fn filled(spoken: &Spoken, state: &State) -> [Vec<u8>; 8] {
 }
 
 /// Nothing where a buffer that needs no byte is to be too short.
-fn lengths(rng: &mut Rng, spoken: &Spoken, room: Room) -> Option<[usize; 8]> {
+pub fn lengths(rng: &mut Rng, needed: &[usize; 6], room: Room) -> Option<[usize; 8]> {
     let mut lengths = [0; 8];
     for (i, bytes) in lengths.iter_mut().enumerate() {
-        let needed = spoken.needed.get(i).copied().unwrap_or(1);
+        let needed = needed.get(i).copied().unwrap_or(1);
         *bytes = length(rng, needed, width(i), room, i)?;
     }
     Some(lengths)

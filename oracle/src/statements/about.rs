@@ -2,7 +2,7 @@
 
 use super::drafts::Draft;
 use super::kinds::Kind;
-use crate::call::{Filter, Join};
+use crate::call::{filter_name, Join};
 use crate::expected::Expected;
 use crate::lent::Room;
 use crate::voicefile;
@@ -42,7 +42,7 @@ fn spoken_details(kind: Kind, draft: &Draft, shown: &Expected) -> Vec<String> {
         details.push(format!("{} join", join_name(settings.join)));
     }
     details.extend([
-        either(settings.filter == Filter::Fixed, "fixed", "float"),
+        filter_name(settings.filter).to_string(),
         either(settings.fold, "fold", "no fold"),
         either(voice.is_g721(), "G.721", "mu-law"),
         either(voice.has_sizes(), "sizes", "no sizes"),

@@ -15,6 +15,7 @@ use mathlib.Core.List.{List, [], _∷_}
 use Prim.Native.Nat.{ℕ}
 use lib.IntN.{pos, negsuc}
 use Rattle.lpc.specs.declared.ResynthType.the-variants.{Fixed, Float}
+use Rattle.call.specs.declared.FilterSetting.the-variants.{Unnamed, Named}
 use Rattle.call.specs.declared.JoinType.the-variants.{None, Simple, ModifiedLpc}
 use Rattle.call.specs.declared.Settings.{Settings}
 use Rattle.call.specs.Buffers.{Buffers}
@@ -61,8 +62,9 @@ fn settings(settings: Settings) -> String {
         Join::Modified => "ModifiedLpc",
     };
     let filter = match settings.filter {
-        Filter::Fixed => "Fixed",
-        Filter::Float => "Float",
+        Some(Filter::Fixed) => "Named Fixed",
+        Some(Filter::Float) => "Named Float",
+        None => "Unnamed",
     };
     let fold = settings.fold;
     format!("record {{ join = {join}; filter = {filter}; fold = {fold} }}")

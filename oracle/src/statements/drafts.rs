@@ -16,6 +16,9 @@ use std::collections::BTreeMap;
 const MOST_VOICE: usize = 640;
 const MOST_SHEET: usize = 140;
 
+/// Rounds through the kinds; in the last of them no call names float.
+pub const ROUNDS: u64 = 4;
+
 /// A call before its buffers and slices are drawn.
 pub struct Draft {
     pub voice: Vec<u8>,
@@ -24,6 +27,17 @@ pub struct Draft {
     pub room: Room,
     /// What was done to it, if something was.
     pub reason: String,
+}
+
+impl Draft {
+    /// The call as it is in a round through the kinds: in the last of four it
+    /// names no filter where it was drawn with float.
+    pub fn in_round(mut self, round: u64) -> Draft {
+        if round % ROUNDS == ROUNDS - 1 && self.settings.filter_in() == Filter::Float {
+            self.settings.filter = None;
+        }
+        self
+    }
 }
 
 /// The calls at a limit that are small.
@@ -86,7 +100,7 @@ pub fn draft(rng: &mut Rng, kind: Kind, limits: &Limits) -> Option<Draft> {
 }
 
 fn any_settings(rng: &mut Rng) -> Settings {
-    rng.pick(&Settings::all())
+    rng.pick(&Settings::named())
 }
 
 /// A good voice as a file, with what a file may carry besides.
@@ -122,7 +136,7 @@ fn any_good(rng: &mut Rng) -> Draft {
 
 fn float_call(rng: &mut Rng) -> Draft {
     let settings = Settings {
-        filter: Filter::Float,
+        filter: Some(Filter::Float),
         ..any_settings(rng)
     };
     let shape = small::shape(rng);

@@ -1,7 +1,7 @@
 //! The kinds of calls that a run goes through.
 
 use super::rounding;
-use crate::call::{Join, Settings, FILTERS};
+use crate::call::{Filter, Join, Settings};
 use crate::expected::{Given, Most, Spoken, SHORT_BUFFER};
 use crate::gen::damaged_voices::CAUSES;
 use crate::gen::small::Shape;
@@ -98,13 +98,13 @@ const AT_LIMITS: [&str; 9] = [
     "first mark one above the limit",
 ];
 
-/// Every setting with every shape; of join none, which says little, each
-/// setting once.
+/// Every setting that names a filter with every shape; of join none, which says
+/// little, each setting once.
 fn spoken_kinds() -> Vec<Kind> {
     let mut kinds = Vec::new();
-    for settings in Settings::all() {
+    for settings in Settings::named() {
         for (g721, sizes) in [(false, false), (false, true), (true, false), (true, true)] {
-            let first = g721 == settings.fold && sizes == (settings.filter == FILTERS[1]);
+            let first = g721 == settings.fold && sizes == (settings.filter_in() == Filter::Float);
             if settings.join != Join::None || first {
                 kinds.push(Kind::Spoken(settings, Shape { g721, sizes }));
             }

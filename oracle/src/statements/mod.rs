@@ -12,8 +12,9 @@ use crate::call::Settings;
 use crate::expected::{self, Expected, Given};
 use crate::lent::{self, Buffers};
 use crate::rng::Rng;
-use drafts::{Draft, Limits};
+use drafts::{Draft, Limits, ROUNDS};
 use kinds::Kind;
+use std::ops::Range;
 
 /// Calls in a run that is not told otherwise.
 const CALLS: u64 = 30;
@@ -62,14 +63,21 @@ pub fn run(args: &Args) -> bool {
     true
 }
 
+/// The numbers of the first round with calls that name no filter.
+pub fn unnamed_round() -> Range<u64> {
+    let kinds = kinds::all().len() as u64;
+    (ROUNDS - 1) * kinds..ROUNDS * kinds
+}
+
 /// The call of one number. It depends on the seed and the number only.
 pub fn drawn(seed: u64, number: u64, limits: &Limits) -> Drawn {
     let kinds = kinds::all();
     let kind = kinds[number as usize % kinds.len()];
+    let round = number / kinds.len() as u64;
     let rng = &mut Rng::for_case(seed, 3_000_000 + number);
     for _ in 0..MOST_DRAWS {
-        let tried = drafts::draft(rng, kind, limits).and_then(|draft| judged(rng, kind, draft));
-        if let Some(drawn) = tried {
+        let draft = drafts::draft(rng, kind, limits).map(|draft| draft.in_round(round));
+        if let Some(drawn) = draft.and_then(|draft| judged(rng, kind, draft)) {
             return drawn;
         }
     }

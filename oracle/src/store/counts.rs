@@ -16,6 +16,7 @@ pub struct Counts {
     /// Calls by answer; 0 counts those that are spoken.
     answers: [usize; SHORT_BUFFER + 1],
     by_program: [usize; SHORT_BUFFER + 1],
+    unnamed: [usize; SHORT_BUFFER + 1],
     /// Spoken calls with their periods and samples.
     spoken: [usize; 3],
     /// What was spoken: settings, codecs, orders.
@@ -29,6 +30,9 @@ impl Counts {
         self.answers[call.number] += 1;
         if call.is_by_program() {
             self.by_program[call.number] += 1;
+        }
+        if call.names_none() {
+            self.unnamed[call.number] += 1;
         }
         let Some(spoken) = &call.spoken else {
             return;
@@ -59,6 +63,9 @@ impl Counts {
                 .filter(program)
                 .map(|n| format!("answer {n} of the program")),
         );
+        if self.unnamed[1..].iter().all(|count| *count == 0) {
+            missing.push("a refusal where no filter is named".to_string());
+        }
         let mut wanted = vec![order(0), order(32)];
         for settings in Settings::all() {
             wanted.extend([false, true].map(|g721| setting_and_codec(settings, g721)));
@@ -76,6 +83,7 @@ impl Counts {
             "  those by document 01's program: {}",
             numbered(&self.by_program)
         );
+        println!("  those that name no filter: {}", numbered(&self.unnamed));
         let [calls, periods, samples] = self.spoken;
         println!("  spoken: {calls} calls, {periods} periods, {samples} samples");
     }

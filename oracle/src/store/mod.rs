@@ -10,6 +10,7 @@ use crate::args::Args;
 use crate::statements::{self, drafts::Limits};
 use counts::Counts;
 use record::Stored;
+use std::ops::Range;
 
 /// Calls drawn by their kind in a run that is not told otherwise.
 pub const CALLS: u64 = 200;
@@ -48,13 +49,16 @@ pub fn run(args: &Args) -> bool {
 }
 
 /// The calls of `oracle statements` and larger ones, each as it was drawn and
-/// as document 01's program speaks it; then the edges.
+/// as document 01's program speaks it; then the edges. Those that name no filter
+/// stand at the end, some more of `oracle statements` among them.
 pub fn calls(seed: u64, count: u64) -> Vec<Stored> {
     let limits = Limits::new();
-    let small = (0..count).filter_map(|number| small(seed, number, &limits));
-    let drawn = small.chain(larger::all(seed));
+    let small = |numbers: Range<u64>| numbers.filter_map(|number| small(seed, number, &limits));
+    let drawn = small(0..count).chain(larger::all(seed));
     let mut calls: Vec<Stored> = drawn.flat_map(with_program).collect();
     calls.extend(edges::all());
+    calls.extend(small(statements::unnamed_round()).filter(Stored::names_none));
+    calls.sort_by_key(Stored::names_none);
     calls
 }
 
@@ -66,7 +70,8 @@ fn small(seed: u64, number: u64, limits: &Limits) -> Option<Stored> {
     Stored::new(kind, &call.voice, &call.sheet, call.settings, lent)
 }
 
+/// The program names its filter: a call that does not stays alone.
 fn with_program(call: Stored) -> Vec<Stored> {
-    let program = call.by_program();
+    let program = call.settings.filter.and_then(|_| call.by_program());
     [Some(call), program].into_iter().flatten().collect()
 }

@@ -7,7 +7,7 @@ use crate::lines;
 /// Document 01's program: simple join, fixed filter, no fold.
 pub const PROGRAM: Settings = Settings {
     join: Join::Simple,
-    filter: Filter::Fixed,
+    filter: Some(Filter::Fixed),
     fold: false,
 };
 
@@ -79,6 +79,10 @@ impl Stored {
 
     pub fn is_by_program(&self) -> bool {
         self.settings == PROGRAM && self.lent == BUFFERS
+    }
+
+    pub fn names_none(&self) -> bool {
+        self.settings.filter.is_none()
     }
 
     /// What document 01's program prints of a call.

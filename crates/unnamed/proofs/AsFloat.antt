@@ -1,0 +1,57 @@
+-- A filter left unnamed is float.
+use mathlib.Core.Path.{_≡_, refl, sym, ap, _∙_}
+use mathlib.Core.Bool.{Bool}
+use Prim.Native.Nat.{ℕ, zero, suc, _/_, _%_, _≤_}
+use native.Mathlib.Omega.{arith}
+use borrow.Author.Tests.{ne-eqb}
+use Rattle.lpc.specs.declared.ResynthType.the-variants.{Fixed, Float}
+use Rattle.call.specs.declared.JoinType.{JoinType}
+use Rattle.call.specs.declared.FilterSetting.the-variants.{Unnamed, Named}
+use Rattle.call.specs.Call.{filterBy}
+use Rattle.call.specs.Numbers.{joinOf, filterOf, foldOf, settingsOf}
+use Rattle.law.specs.Longer.{SameSettings}
+use Rattle.unnamed.specs.Claims.{chosen, oldFilterOf, oldSettingsOf, AsFloat}
+use Rattle.unnamed.proofs.AlikeLaws.{alike}
+use Rattle.unnamed.proofs.Makes.{can-be-made}
+
+unnamed-same : (j : JoinType) (b : Bool) → SameSettings (chosen j Unnamed b) (chosen j (Named Float) b)
+unnamed-same j b = record { join = refl; filter = refl; fold = refl }
+
+fixed-other : (j : JoinType) (b : Bool) → SameSettings (chosen j Unnamed b) (chosen j (Named Fixed) b) → ⊥
+fixed-other j b s =
+    let f = s .filter in
+    let z : _≡_ {A = ℕ} 0 1 = cc in
+    absurd (omega arith)
+
+-- the filter that a number of bits 2 and 3 ends up with
+old-filter : (n : ℕ) → filterBy (filterOf n) ≡ oldFilterOf n
+unfolding filterOf
+old-filter zero = refl
+old-filter (suc zero) = refl
+old-filter (suc (suc n)) = rw (ne-eqb (suc (suc n)) 0 (omega arith), ne-eqb (suc (suc n)) 1 (omega arith))
+
+old-float : (n : ℕ) → 2 ≤ n → oldFilterOf n ≡ Float
+old-float n h = rw (ne-eqb n 1 (omega arith))
+
+float-words : (n m : ℕ) → n ≡ 0 → 2 ≤ m → filterBy (filterOf n) ≡ filterBy (filterOf m)
+float-words n m none float = old-filter n ∙ ap oldFilterOf none ∙ sym (old-filter m ∙ old-float m float)
+
+words-same : (word word₁ : ℕ) → word % 4 ≡ word₁ % 4 → word / 16 % 2 ≡ word₁ / 16 % 2
+    → filterBy (filterOf (word / 4 % 4)) ≡ filterBy (filterOf (word₁ / 4 % 4)) → SameSettings (settingsOf word) (settingsOf word₁)
+unfolding settingsOf
+words-same word word₁ join fold filter = record { join = ap joinOf join; filter = filter; fold = ap foldOf fold }
+
+word-same : (word : ℕ) → SameSettings (settingsOf word) (oldSettingsOf word)
+unfolding settingsOf
+word-same word = record { join = refl; filter = old-filter (word / 4 % 4); fold = refl }
+
+pub as-float : AsFloat
+as-float =
+    record {
+      unnamed = λ j b. alike _ _ (unnamed-same j b);
+      words = λ word word₁ join fold none float. alike _ _ (words-same word word₁ join fold (float-words _ _ none (omega arith)));
+      kept = λ word. alike _ _ (word-same word);
+      same = unnamed-same;
+      other = fixed-other;
+      made = can-be-made;
+    }

@@ -1,0 +1,3 @@
+-- The root of unnamed's definitions.
+pub mod Kept
+pub mod Claims
