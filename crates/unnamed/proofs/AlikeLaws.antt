@@ -1,19 +1,16 @@
 -- Calls under the same settings answer alike, by the contracts alone.
-use mathlib.Core.Path.{_≡_, refl, sym, ap, subst, _∙_}
+use mathlib.Core.Path.{_≡_, refl, sym, ap, _∙_}
 use mathlib.Core.List.{List, [], _∷_}
-use mathlib.Core.Option.{Option}
 use Prim.Native.Nat.{ℕ}
 use denote.Ref.{now}
 use lib.ListN.{length}
-use Rattle.refusal.specs.declared.Refusal.{Refusal}
 use Rattle.refusal.specs.Number.{answerOf}
 use Rattle.lpc.specs.declared.FilterState.{FilterState}
 use Rattle.call.specs.declared.Settings.{Settings}
 use Rattle.call.specs.Pull.{lentOf, pullOf}
 use Rattle.call.specs.Buffers.{Buffers}
-use Rattle.call.specs.SpokenCall.{LentBytes, readAs}
+use Rattle.call.specs.SpokenCall.{LentBytes}
 use Rattle.reporting.specs.Report.{refusalOfReport, linesLeft}
-use Rattle.reporting.specs.Claims.{AnyFilter}
 use Rattle.reporting.proofs.ReportLaws.{any-filter}
 use Rattle.c_plan.specs.Plan.{Handed, refusalOfNeed, needLeft}
 use Rattle.c_pull.specs.Pull.{numberFor, stateLeft, sliceLeft}
@@ -79,31 +76,32 @@ module _ {R L : Type 0} (Made : Settings → R → L → Type 0) (p o : Settings
 
 -- ---- all of it
 
+-- where what a call answers and leaves is a definition's of its settings, and of both the same
+answers-by : {R L : Type 0} (Made : Settings → R → L → Type 0) (answer : Settings → R) (leaves : Settings → L)
+    → ((x : Settings) (r : R) (left : L) → Made x r left → (r ≡ answer x) × (left ≡ leaves x))
+    → (p o : Settings) → answer p ≡ answer o → leaves p ≡ leaves o → AnswersAlike Made p o
+answers-by Made answer leaves is p o a l r r₁ left left₁ m m₁ =
+    let x = is p r left m in
+    let y = is o r₁ left₁ m₁ in
+    (x .0 ∙ a ∙ sym (y .0), x .1 ∙ l ∙ sym (y .1))
+
 module _ (p o : Settings) (same : SameSettings p o) where
   plan-alike : (file sheet : List ℕ) (b : Buffers) → AnswersAlike (λ x. PlanMade file sheet x b) p o
-  plan-alike file sheet b r r₁ left left₁ m m₁ =
-      let a = plan-made file sheet p b left r m in
-      let c = plan-made file sheet o b left₁ r₁ m₁ in
-      (a .0 ∙ planned-same file sheet p o same b ∙ sym (c .0), a .1 ∙ buffers-same file sheet p o same b ∙ sym (c .1))
+  plan-alike file sheet b =
+      answers-by _ _ _ (λ x r left. plan-made file sheet x b left r) p o (planned-same file sheet p o same b) (buffers-same file sheet p o same b)
 
   in-c-alike : (file sheet : List ℕ) (h : Handed) → AnswersAlike (λ x. PlanMadeInC file sheet x h) p o
-  in-c-alike file sheet h r r₁ left left₁ m m₁ =
-      let a = plan-in-c file sheet p h r left m in
-      let c = plan-in-c file sheet o h r₁ left₁ m₁ in
-      (a .0 ∙ ap answerOf (plan-refused-same file sheet p o same h) ∙ sym (c .0), a .1 ∙ handed-same file sheet p o same h ∙ sym (c .1))
+  in-c-alike file sheet h =
+      answers-by _ _ _ (λ x. plan-in-c file sheet x h) p o (ap answerOf (plan-refused-same file sheet p o same h)) (handed-same file sheet p o same h)
 
   need-alike : (file sheet old : List ℕ) → AnswersAlike (λ x. NeedMadeInC file sheet x old) p o
-  need-alike file sheet old r r₁ left left₁ m m₁ =
-      let a = need-in-c file sheet p old r left m in
-      let c = need-in-c file sheet o old r₁ left₁ m₁ in
-      (a .0 ∙ ap answerOf (need-refused-same file sheet p o same (length old)) ∙ sym (c .0), a .1 ∙ need-same file sheet p o same old ∙ sym (c .1))
+  need-alike file sheet old =
+      answers-by _ _ _ (λ x. need-in-c file sheet x old) p o (ap answerOf (need-refused-same file sheet p o same (length old))) (need-same file sheet p o same old)
 
   report-alike : (file sheet old : List ℕ) → AnswersAlike (λ x. ReportMadeInC file sheet x old) p o
-  report-alike file sheet old r r₁ left left₁ m m₁ =
+  report-alike file sheet old =
       let any = any-filter file sheet p o (same .join) (same .fold) in
-      let a = report-in-c file sheet p old r left m in
-      let c = report-in-c file sheet o old r₁ left₁ m₁ in
-      (a .0 ∙ ap answerOf (any .refusal (length old)) ∙ sym (c .0), a .1 ∙ any .left old ∙ sym (c .1))
+      answers-by _ _ _ (λ x. report-in-c file sheet x old) p o (ap answerOf (any .refusal (length old))) (any .left old)
 
   pub alike : Alike p o
   alike =

@@ -6,6 +6,7 @@ use native.Mathlib.Omega.{arith}
 use borrow.Author.Tests.{ne-eqb}
 use Rattle.lpc.specs.declared.ResynthType.the-variants.{Fixed, Float}
 use Rattle.call.specs.declared.JoinType.{JoinType}
+use Rattle.call.specs.declared.FilterSetting.{FilterSetting}
 use Rattle.call.specs.declared.FilterSetting.the-variants.{Unnamed, Named}
 use Rattle.call.specs.Call.{filterBy}
 use Rattle.call.specs.Numbers.{joinOf, filterOf, foldOf, settingsOf}
@@ -14,8 +15,9 @@ use Rattle.unnamed.specs.Claims.{chosen, oldFilterOf, oldSettingsOf, AsF
 use Rattle.unnamed.proofs.AlikeLaws.{alike}
 use Rattle.unnamed.proofs.Makes.{can-be-made}
 
-unnamed-same : (j : JoinType) (b : Bool) → SameSettings (chosen j Unnamed b) (chosen j (Named Float) b)
-unnamed-same j b = record { join = refl; filter = refl; fold = refl }
+-- settings of one join and one fold that end up with one filter
+same-by : (j : JoinType) (b : Bool) (f g : FilterSetting) → filterBy f ≡ filterBy g → SameSettings (chosen j f b) (chosen j g b)
+same-by j b f g e = record { join = refl; filter = e; fold = refl }
 
 fixed-other : (j : JoinType) (b : Bool) → SameSettings (chosen j Unnamed b) (chosen j (Named Fixed) b) → ⊥
 fixed-other j b s =
@@ -48,10 +50,10 @@ word-same word = record { join = refl; filter = old-filter (word / 4 % 4); fold 
 pub as-float : AsFloat
 as-float =
     record {
-      unnamed = λ j b. alike _ _ (unnamed-same j b);
+      unnamed = λ j b. alike _ _ (same-by j b _ _ refl);
       words = λ word word₁ join fold none float. alike _ _ (words-same word word₁ join fold (float-words _ _ none (omega arith)));
       kept = λ word. alike _ _ (word-same word);
-      same = unnamed-same;
+      same = λ j b. same-by j b _ _ refl;
       other = fixed-other;
       made = can-be-made;
     }

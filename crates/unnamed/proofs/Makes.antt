@@ -1,7 +1,5 @@
 -- Every call can be made, and every pull: the claim over the contracts is not empty.
 use mathlib.Core.Path.{refl}
-use mathlib.Core.List.{List}
-use Prim.Native.Nat.{ℕ}
 use Rattle.call.proofs.NumberLaws.{planned-number}
 use Rattle.law.specs.Made.{made as plan-made}
 use Rattle.law.specs.MadeInC.{made as plan-in-c}

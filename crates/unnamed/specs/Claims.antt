@@ -14,7 +14,6 @@ use Rattle.call.specs.declared.JoinType.{JoinType}
 use Rattle.call.specs.declared.FilterSetting.{FilterSetting}
 use Rattle.call.specs.declared.FilterSetting.the-variants.{Unnamed, Named}
 use Rattle.call.specs.declared.Settings.{Settings}
-use Rattle.call.specs.declared.Planned.{Planned}
 use Rattle.call.specs.Numbers.{settingsOf}
 use Rattle.call.specs.Buffers.{Buffers, plannedOf, buffersAfter}
 use Rattle.call.specs.SpokenCall.{LentBytes}
