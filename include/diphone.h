@@ -9,7 +9,7 @@
  * little-endian; bytes past the last whole element of a buffer do not count. A function that refuses
  * leaves every buffer as it was. The processor must round to nearest and keep subnormal floats, as it
  * does unless a program sets it otherwise (a program linked with -ffast-math does). A thread that
- * calls them should have 64 KiB of stack left (59 KB were seen in a call; tests/c/stack.c measures it).
+ * calls them should have 64 KiB of stack left (57 KB were seen in a call; tests/c/stack.c measures it).
  */
 #ifndef DIPHONE_H
 #define DIPHONE_H
@@ -17,7 +17,7 @@
 #include <stddef.h>
 #include <stdint.h>
 
-#define DIPHONE_VERSION "1.3"
+#define DIPHONE_VERSION "1.4"
 
 #ifdef __cplusplus
 #define DIPHONE_RESTRICT
@@ -46,7 +46,8 @@ enum {
     DIPHONE_SHORT_SLICE = 14,    /* the sample slice is shorter than the next period */
     DIPHONE_BAD_STATE = 15,      /* the filter state is impossible, or the rows end within the
                                     next one */
-    DIPHONE_LAST_REFUSAL = 15     /* the last of them */
+    DIPHONE_MISSING_PAIR = 16,   /* the call is strict, and a pair finds no name in the index */
+    DIPHONE_LAST_REFUSAL = 16    /* the last of them */
 };
 
 /* The record of a voice: the 40 bytes of its section sts.header as stored, then two numbers of
@@ -69,10 +70,17 @@ uint32_t diphone_open(const uint8_t *DIPHONE_RESTRICT voice, size_t voice_len,
                       uint8_t *DIPHONE_RESTRICT index, size_t index_len,
                       uint8_t *DIPHONE_RESTRICT record, size_t record_len);
 
-/* Settings of a call: one word, of a join and, perhaps, a filter and DIPHONE_FOLD, joined by |. Every
- * number is a setting: of bits 0 and 1 (the join) 3 is the modified join too; of bits 2 and 3 (the
- * filter) 3 is the float filter too, and 0 names none: such a call answers in everything as the one
- * that names the float filter; bits 5 and above mean nothing yet and should be 0. */
+/* Settings of a call: one word, of a join and, perhaps, a filter, DIPHONE_FOLD and DIPHONE_STRICT,
+ * joined by |. Every number is a setting: of bits 0 and 1 (the join) 3 is the modified join too; of
+ * bits 2 and 3 (the filter) 3 is the float filter too, and 0 names none: such a call answers in
+ * everything as the one that names the float filter; bits 6 and above mean nothing yet and should
+ * be 0.
+ *
+ * After folding, a pair of adjacent segments tries the name left_-_right, where the left phone is
+ * no vowel and its follower is a consonant or a pause, then left-right. A pair that finds neither in
+ * the index is spoken by the index's first entry in order; a strict call with such a pair is refused
+ * with 16, in every join. A strict call that 16 does not refuse is in everything as one without
+ * DIPHONE_STRICT. */
 enum {
     DIPHONE_JOIN_NONE = 0,      /* no periods */
     DIPHONE_JOIN_SIMPLE = 1,    /* each period as long as it is stored */
@@ -80,7 +88,8 @@ enum {
     DIPHONE_FILTER_UNNAMED = 0, /* the call ends up with the float filter */
     DIPHONE_FILTER_FIXED = 4,
     DIPHONE_FILTER_FLOAT = 8,
-    DIPHONE_FOLD = 16           /* `ah` counts as `aa` */
+    DIPHONE_FOLD = 16,          /* `ah` counts as `aa` */
+    DIPHONE_STRICT = 32         /* every pair must find a name */
 };
 
 /* What the buffers of a call need: six numbers of 8 bytes each, for entries of the index, marks,
@@ -92,7 +101,7 @@ enum {
  *
  * Takes:   voice and sheet, the bytes of a voice file and of a call sheet; settings, as above (the
  *          filter plays no part); need, DIPHONE_NEED_BYTES or more.
- * Answers: 0; or 1 to 12 as diphone_plan does; or 13 if need is too short.
+ * Answers: 0; or 1 to 12 or 16 as diphone_plan does; or 13 if need is too short.
  * Leaves:  on 0, in need the six numbers: an index of 8 bytes an entry, marks of 4, sizes of 4 bytes
  *          a period, rows of 2 a row value, excitation and decoded of so many bytes are long enough,
  *          and shorter ones are not; bytes past these as they were. */
@@ -110,7 +119,7 @@ uint32_t diphone_need(const uint8_t *DIPHONE_RESTRICT voice, size_t voice_len,
  *
  * Takes:   voice, sheet and settings as diphone_need does (the filter plays no part); lines,
  *          DIPHONE_REPORT_LINE_BYTES for each period or more (diphone_need tells how many periods).
- * Answers: 0; or 1 to 12 as diphone_need does; or 13 if lines is too short.
+ * Answers: 0; or 1 to 12 or 16 as diphone_need does; or 13 if lines is too short.
  * Leaves:  on 0, in lines a line for each period, in their order; bytes past these as they were. Pair
  *          and half are those of the unit that took the period's mark: in the simple join a unit takes
  *          the marks that its own periods made, those of empty periods too; in the modified join, unit by
@@ -138,9 +147,10 @@ uint32_t diphone_report(const uint8_t *DIPHONE_RESTRICT voice, size_t voice_len,
  *          decoded, each as long as diphone_need tells or longer; state, DIPHONE_STATE_BYTES or more;
  *          summary, DIPHONE_SUMMARY_BYTES or more.
  * Answers: 0; or 1 to 7 for the voice file, then 8 or 9 for the sheet, whichever is met first in it,
- *          then 11 for a target end, then 10, 12 or 11 for the marks in the order made, then 13 if a
- *          buffer is too short. The simple join gives no 10, and 11 for its marks alone; join none
- *          and a sheet of fewer than two segments give no 10, 11 or 12.
+ *          then 16 for a pair of a strict call, then 11 for a target end, then 10, 12 or 11 for the
+ *          marks in the order made, then 13 if a buffer is too short. The simple join gives no 10,
+ *          and 11 for its marks alone; join none gives no 10, 11 or 12, and a sheet of fewer than
+ *          two segments no 16 either.
  * Leaves:  on 0, in index the sorted index as diphone_open has it, in marks every pitch mark (4 bytes
  *          each), in sizes the size of each period in samples (4 bytes), in rows its row of order
  *          values as stored (2 bytes each), in excitation a mu-law byte for each sample, in decoded

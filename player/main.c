@@ -31,7 +31,7 @@ static int refuse(uint32_t number, const struct call *call)
     if (number == NO_MEMORY)
         fprintf(stderr, "player: not enough memory for this call\n");
     else
-        print_refusal(number, &call->voice, &call->sheet);
+        print_refusal(number, &call->voice, &call->sheet, call->options);
     return 1;
 }
 

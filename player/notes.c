@@ -4,43 +4,27 @@
 
 #include <stdio.h>
 
-#define NAMED 5 /* pairs named at most */
-
-/* A line on standard error with the first pairs that the voice has not. */
-static void print_pairs(const struct entries *entries, const struct phones *phones, size_t missing,
-                        int fold, const char *voice)
-{
-    char name[PAIR_NAME];
-    size_t left, named = 0;
-
-    name_first(name, sizeof name, entries);
-    fprintf(stderr, "player: note: %llu of %llu pairs not in %s, spoken by its first entry %s:",
-            (unsigned long long)missing, (unsigned long long)phones->count - 1, voice, name);
-    for (left = 0; left + 1 < phones->count && named < NAMED; left += 1)
-        if (!has_pair(entries, phones, left, fold)) {
-            name_pair(name, phones, left, fold);
-            fprintf(stderr, "%s %s", named == 0 ? "" : ",", name);
-            named += 1;
-        }
-    fputs(missing > NAMED ? ", ..\n" : "\n", stderr);
-}
+#define ENTRY_NAME 68 /* bytes shown of an entry's name, with its end */
 
 void note_pairs(const struct speech *speech, const struct input *voice, const struct input *sheet,
                 const struct options *options)
 {
-    struct entries entries = {&voice->bytes, &speech->index};
-    struct phones phones;
+    struct pairs pairs = {.voice = &voice->bytes, .index = &speech->index, .fold = options->fold != 0};
+    char first[ENTRY_NAME], becomes[ENTRY_NAME + 32] = "";
     struct flaw flaw;
-    size_t left, missing = 0;
-    int fold = options->fold != 0;
 
-    if (options->join == DIPHONE_JOIN_NONE || read_phones(&phones, &sheet->bytes, &flaw) != 0)
+    if (read_phones(&pairs.phones, &sheet->bytes, &flaw) != 0)
         return;
-    for (left = 0; left + 1 < phones.count; left += 1)
-        missing += !has_pair(&entries, &phones, left, fold);
-    if (missing > 0)
-        print_pairs(&entries, &phones, missing, fold, voice->name);
-    release_phones(&phones);
+    if (speech->periods > 0) {
+        name_first(first, sizeof first, &pairs);
+        snprintf(becomes, sizeof becomes, ", spoken by its first entry %s", first);
+    }
+    if (count_missing(&pairs) > 0) {
+        fputs("player: note: ", stderr);
+        print_missing(&pairs, voice->name, becomes);
+        fputs(" (--strict refuses such a call)\n", stderr);
+    }
+    release_phones(&pairs.phones);
 }
 
 void note_empty(const struct speech *speech, const struct input *sheet, const struct options *options)

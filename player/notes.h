@@ -5,7 +5,7 @@
 #include "options.h"
 #include "speech.h"
 
-/* Says how many pairs of the sheet are not in the voice, and which first ones. */
+/* Says how many pairs of the sheet are not in the voice, and which first ones, in every join. */
 void note_pairs(const struct speech *speech, const struct input *voice, const struct input *sheet,
                 const struct options *options);
 

@@ -24,13 +24,15 @@ static const struct flag FILTERS[] = {{"fixed", DIPHONE_FILTER_FIXED},
 void print_usage(FILE *stream)
 {
     fputs("usage: player VOICE SHEET [--join none|simple|modified] [--filter fixed|float] [--fold]\n"
-          "              [--gain DB] [--raw | [--report | --ends] [--wav FILE]]\n"
+          "              [--strict] [--gain DB] [--raw | [--report | --ends] [--wav FILE]]\n"
           "\n"
           "Speaks the call sheet SHEET with the voice file VOICE. A file named - is standard input;\n"
           "after -- every word is a file.\n"
           "  --join    how units are joined (modified)\n"
           "  --filter  the arithmetic of the filter; if none is named, one hears float\n"
           "  --fold    speak ah as aa\n"
+          "  --strict  refuse a call with a pair of phones that is not in the voice; without it such a\n"
+          "            pair is spoken by the voice's first entry, and a note tells which\n"
           "  --gain    louder by DB decibels, or softer below 0; less where samples would clip (0)\n"
           "  --wav     write a WAV file; with - on standard output\n"
           "  --raw     write 16-bit little-endian samples on standard output,\n"
@@ -136,6 +138,8 @@ static int read_flag(struct options *options, const char *option)
 {
     if (strcmp(option, "--fold") == 0)
         options->fold = DIPHONE_FOLD;
+    else if (strcmp(option, "--strict") == 0)
+        options->strict = DIPHONE_STRICT;
     else if (strcmp(option, "--raw") == 0)
         options->output = OUTPUT_RAW;
     else if (strcmp(option, "--report") == 0)

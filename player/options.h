@@ -13,7 +13,7 @@ enum task { TASK_SPEAK, TASK_HELP, TASK_VERSION };
 struct options {
     const char *voice; /* a file, or - for standard input */
     const char *sheet;
-    uint32_t join, filter, fold; /* the flags of diphone.h */
+    uint32_t join, filter, fold, strict; /* the flags of diphone.h */
     double gain;     /* in decibels */
     enum output output;
     const char *wav; /* the file of OUTPUT_WAV, or - for standard output */

@@ -5,6 +5,10 @@
 #include <stdio.h>
 #include <string.h>
 
+#define LEAST_ENTRY 5 /* bytes of a voice file */
+#define NAMED 5       /* pairs named at most */
+#define PAIR_NAME 68  /* bytes of a pair's longest name, with its end */
+
 static const char VOWELS[] = " aa ae ah ao aw ax axr ay eh el em en er ey ih iy ow oy uh uw ";
 static const char CONSONANTS[] =
     " b ch d dh dx f g hh hv jh k l m n nx ng p r s sh t th v w y z zh pau h# brth ";
@@ -25,43 +29,44 @@ static int is_among(const char *list, const struct name *name)
     return strstr(list, word) != NULL;
 }
 
-static struct name folded(const struct phone *phone, int fold)
+/* The name of the phone at a place, after folding. */
+static struct name phone_name(const struct pairs *pairs, size_t place)
 {
     static const uint8_t AA[] = "aa";
+    const struct phone *phone = &pairs->phones.at[place];
     struct name name = {phone->name, phone->length};
 
-    if (fold && name.length == 2 && memcmp(name.at, "ah", 2) == 0)
+    if (pairs->fold && name.length == 2 && memcmp(name.at, "ah", 2) == 0)
         name.at = AA;
     return name;
 }
 
 /* The left phone is no vowel, and its follower is a consonant. */
-static int in_cluster(const struct phones *phones, size_t left, int fold)
+static int in_cluster(const struct pairs *pairs, size_t left)
 {
-    const struct phone *phone = &phones->at[left];
-    struct name name = folded(phone, fold);
+    uint32_t number = pairs->phones.at[left].follower;
+    struct name name = phone_name(pairs, left);
     struct name follower;
 
-    if (phone->follower == 0 || is_among(VOWELS, &name))
+    if (number == 0 || is_among(VOWELS, &name))
         return 0;
-    follower = folded(&phones->at[phone->follower - 1], fold);
+    follower = phone_name(pairs, number - 1);
     return is_among(CONSONANTS, &follower);
 }
 
-static size_t pair_name(char *text, size_t room, const struct phones *phones, size_t left,
-                        const char *joint, int fold)
+static size_t pair_name(char *text, const struct pairs *pairs, size_t left, const char *joint)
 {
-    struct name a = folded(&phones->at[left], fold);
-    struct name b = folded(&phones->at[left + 1], fold);
+    struct name a = phone_name(pairs, left);
+    struct name b = phone_name(pairs, left + 1);
 
-    return (size_t)snprintf(text, room, "%.*s%s%.*s", (int)a.length, (const char *)a.at, joint,
+    return (size_t)snprintf(text, PAIR_NAME, "%.*s%s%.*s", (int)a.length, (const char *)a.at, joint,
                             (int)b.length, (const char *)b.at);
 }
 
 /* The name of an entry: a byte for its length stands before it. */
-static struct name entry_name(const struct entries *entries, size_t place)
+static struct name entry_name(const struct pairs *pairs, size_t place)
 {
-    const uint8_t *at = entries->voice->at + u64_at(entries->index->at, place);
+    const uint8_t *at = pairs->voice->at + u64_at(pairs->index->at, place);
     struct name name = {at + 1, *at};
 
     return name;
@@ -76,13 +81,13 @@ static int compare(const struct name *a, const char *text, size_t length)
     return order != 0 ? order : (a->length > length) - (a->length < length);
 }
 
-static int has_name(const struct entries *entries, const char *text, size_t length)
+static int has_name(const struct pairs *pairs, const char *text, size_t length)
 {
-    size_t low = 0, high = entries->index->length / DIPHONE_INDEX_ENTRY_BYTES;
+    size_t low = 0, high = pairs->index->length / DIPHONE_INDEX_ENTRY_BYTES;
 
     while (low < high) {
         size_t middle = low + (high - low) / 2;
-        struct name name = entry_name(entries, middle);
+        struct name name = entry_name(pairs, middle);
         int order = compare(&name, text, length);
         if (order == 0)
             return 1;
@@ -94,28 +99,63 @@ static int has_name(const struct entries *entries, const char *text, size_t leng
     return 0;
 }
 
-int has_pair(const struct entries *entries, const struct phones *phones, size_t left, int fold)
+/* Whether the voice has a name that the pair tries. */
+static int has_pair(const struct pairs *pairs, size_t left)
 {
     char text[PAIR_NAME];
     size_t length;
 
-    if (in_cluster(phones, left, fold)) {
-        length = pair_name(text, sizeof text, phones, left, "_-_", fold);
-        if (has_name(entries, text, length))
+    if (in_cluster(pairs, left)) {
+        length = pair_name(text, pairs, left, "_-_");
+        if (has_name(pairs, text, length))
             return 1;
     }
-    length = pair_name(text, sizeof text, phones, left, "-", fold);
-    return has_name(entries, text, length);
+    length = pair_name(text, pairs, left, "-");
+    return has_name(pairs, text, length);
 }
 
-void name_pair(char *name, const struct phones *phones, size_t left, int fold)
+int open_index(struct bytes *index, const struct bytes *voice)
 {
-    pair_name(name, PAIR_NAME, phones, left, "-", fold);
+    uint8_t record[DIPHONE_VOICE_BYTES];
+
+    if (allocate(index, voice->length / LEAST_ENTRY, DIPHONE_INDEX_ENTRY_BYTES) != 0)
+        return -1;
+    if (diphone_open(voice->at, voice->length, index->at, index->length, record, sizeof record) != 0) {
+        release(index);
+        return -1;
+    }
+    index->length = (size_t)u64_at(record, 5) * DIPHONE_INDEX_ENTRY_BYTES;
+    return 0;
 }
 
-void name_first(char *name, size_t room, const struct entries *entries)
+size_t count_missing(const struct pairs *pairs)
 {
-    struct name first = entry_name(entries, 0);
+    size_t left, missing = 0;
+
+    for (left = 0; left + 1 < pairs->phones.count; left += 1)
+        missing += !has_pair(pairs, left);
+    return missing;
+}
+
+void print_missing(const struct pairs *pairs, const char *voice, const char *becomes)
+{
+    char name[PAIR_NAME];
+    size_t left, named = 0, count = pairs->phones.count - 1, missing = count_missing(pairs);
+
+    fprintf(stderr, "%llu of %llu pairs not in %s%s:", (unsigned long long)missing,
+            (unsigned long long)count, voice, becomes);
+    for (left = 0; left < count && named < NAMED; left += 1)
+        if (!has_pair(pairs, left)) {
+            pair_name(name, pairs, left, "-");
+            fprintf(stderr, "%s %s", named == 0 ? "" : ",", name);
+            named += 1;
+        }
+    fputs(missing > NAMED ? ", .." : "", stderr);
+}
+
+void name_first(char *name, size_t room, const struct pairs *pairs)
+{
+    struct name first = entry_name(pairs, 0);
     size_t i;
 
     for (i = 0; i < first.length && i + 1 < room; i += 1)

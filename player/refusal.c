@@ -1,11 +1,11 @@
 #include "refusal.h"
 
 #include "diphone.h"
-#include "sheet.h"
+#include "pairs.h"
 
 #include <stdio.h>
 
-/* What each number says: of the voice up to 7, then of the sheet up to 12, then of the player. */
+/* What each number says: of the voice up to 7, of the sheet up to 12 and with 16, else of the player. */
 static const char *const SENTENCES[] = {
     "no refusal",
     "is no voice file: its first 8 bytes are not FLRSDAT and 1",
@@ -23,6 +23,7 @@ static const char *const SENTENCES[] = {
     "a buffer is too short",
     "a sample slice is shorter than the next period",
     "the filter state is impossible, or the coefficients are cut short",
+    "has pairs of phones that the voice lacks, and the call is strict",
 };
 
 _Static_assert(sizeof SENTENCES / sizeof *SENTENCES == DIPHONE_LAST_REFUSAL + 1,
@@ -48,15 +49,37 @@ static void print_flaw(const struct bytes *sheet)
               stderr);
 }
 
-void print_refusal(uint32_t number, const struct input *voice, const struct input *sheet)
+/* How many pairs the voice lacks and which, behind the sentence; a refused call has filled no index. */
+static void print_lacking(const struct input *voice, const struct input *sheet, int fold)
+{
+    struct bytes index;
+    struct pairs pairs = {.voice = &voice->bytes, .index = &index, .fold = fold};
+    struct flaw flaw;
+
+    if (open_index(&index, &voice->bytes) != 0)
+        return;
+    if (read_phones(&pairs.phones, &sheet->bytes, &flaw) == 0) {
+        fputs(": ", stderr);
+        print_missing(&pairs, voice->name, "");
+        release_phones(&pairs.phones);
+    }
+    release(&index);
+}
+
+void print_refusal(uint32_t number, const struct input *voice, const struct input *sheet,
+                   const struct options *options)
 {
     const char *what = "the player is at fault:";
 
-    if (number <= LAST_OF_SHEET)
-        what = number <= LAST_OF_VOICE ? voice->name : sheet->name;
+    if (number <= LAST_OF_VOICE)
+        what = voice->name;
+    else if (number <= LAST_OF_SHEET || number == DIPHONE_MISSING_PAIR)
+        what = sheet->name;
     fprintf(stderr, "player: refused %lu: %s %s", (unsigned long)number, what,
             number <= DIPHONE_LAST_REFUSAL ? SENTENCES[number] : "an unknown number");
     if (number == DIPHONE_BAD_SHEET || number == DIPHONE_NOT_FINITE)
         print_flaw(&sheet->bytes);
+    else if (number == DIPHONE_MISSING_PAIR)
+        print_lacking(voice, sheet, options->fold != 0);
     putc('\n', stderr);
 }

@@ -4,7 +4,7 @@
 
 static uint32_t settings_word(const struct options *options)
 {
-    return options->join | options->filter | options->fold;
+    return options->join | options->filter | options->fold | options->strict;
 }
 
 /* Allocates what diphone_need asks for. */

@@ -157,6 +157,122 @@ def voice_file(header, rows, residuals, entries, backend=None, sizes=None):
     return voice_of([(name, data) for name, data in sections if data is not None])
 
 
+# ---- voices that open
+
+NEEDED = [b"sts.header", b"sts.lpc", b"sts.resoffs", b"sts.res", b"dip.index"]
+LARGEST_RESIDUAL = 16_777_215
+# Unicode's white space, which Rust's str::trim takes off; Python's strip takes more.
+WHITE_SPACE = "\t\n\v\f\r \x85\xa0\u1680\u2028\u2029\u202f\u205f\u3000" + "".join(map(chr, range(0x2000, 0x200B)))
+
+
+class Voice:
+    """A voice file. `open` makes the engine's checks; where one refuses, what was read before it stands here."""
+
+    def __init__(self, data):
+        self.data = data
+        self.listed = []  # every section, in file order
+        self.sections = {}  # the first of each name
+        self.header = None
+        self.stored = None  # how many bytes each period has
+        self.sizes = None  # how many samples
+        self.entries = None  # of each name its start and two halves, in name order
+
+    def open(self):
+        for section in sections_of(self.data):
+            self.listed.append(section)
+            self.sections.setdefault(section.name, section)
+        check_sections(self.sections)
+        self.header = header_of(self.sections[b"sts.header"])
+        check_header(self.header)
+        offsets = read_offsets(self.header, self.sections)
+        self.stored = [end - start for start, end in zip(offsets, offsets[1:])]
+        sizes = self.sections.get(b"sts.ressize")
+        self.sizes = self.stored if sizes is None else list(sizes.data[: self.header.frames])
+        self.entries = read_index(self.header, self.data, self.sections[b"dip.index"])
+
+    def found(self, segments, place, fold):
+        """The name that the pair of a segment, by its place from 0, and the next one finds, or None."""
+        return next((name for name in names_tried(segments, place, fold) if name in self.entries), None)
+
+
+def open_voice(data):
+    """A voice that opens; 1 to 7 are the refusals."""
+    voice = Voice(data)
+    voice.open()
+    return voice
+
+
+def shown_text(name):
+    """Any name for a terminal: as it is, or in quotes with escapes."""
+    text = name.decode("utf-8") if isinstance(name, bytes) else name
+    return text if text and text.isascii() and text.isprintable() else ascii(text)
+
+
+def check_backend(data):
+    try:
+        name = data.decode("utf-8").strip(WHITE_SPACE)
+    except UnicodeDecodeError:
+        raise Refused(3, "the back end's name is not UTF-8") from None
+    if name != "diphone":
+        raise Refused(3, f"the back end is {shown_text(name)}, not diphone")
+
+
+def check_sections(sections):
+    if b"voice.backend" in sections:
+        check_backend(sections[b"voice.backend"].data)
+    missing = [name.decode() for name in NEEDED if name not in sections]
+    if missing:
+        raise Refused(4, f"missing: {', '.join(missing)}")
+
+
+def check_header(header):
+    limits = {
+        "frames": (1, math.inf),
+        "order": (0, 32),
+        "rate": (1, 48_000),
+        "coeff_min": (-16, 16),
+        "coeff_range": (-16, 16),
+        "codec": (0, 1),
+    }
+    for name, (least, most) in limits.items():
+        value = getattr(header, name)
+        if not least <= value <= most:
+            raise Refused(5, f"{name} {value} is not from {least} to {most}")
+
+
+def read_offsets(header, sections):
+    """The offsets of the periods, in tables that fit each other; 6 is the refusal."""
+    frames, order = header.frames, header.order
+    residual = len(sections[b"sts.res"].data)
+    if residual > LARGEST_RESIDUAL:
+        raise Refused(6, f"sts.res has more than {LARGEST_RESIDUAL} bytes")
+    needs = {b"sts.lpc": frames * order * 2, b"sts.ressize": frames, b"sts.resoffs": (frames + 1) * 4}
+    for name, least in needs.items():
+        if name in sections and len(sections[name].data) < least:
+            raise Refused(6, f"{name.decode()} has {len(sections[name].data)} bytes, not {least}")
+    offsets = struct.unpack_from(f"<{frames + 1}I", sections[b"sts.resoffs"].data)
+    falling = next((frame for frame in range(frames) if offsets[frame] > offsets[frame + 1]), None)
+    if falling is not None:
+        raise Refused(6, f"the offset after period {falling} falls from {offsets[falling]} to {offsets[falling + 1]}")
+    if offsets[frames] > residual:
+        raise Refused(6, f"the last offset {offsets[frames]} is past the residual's {residual} bytes")
+    return offsets
+
+
+def read_index(header, voice, section):
+    """Of each name its start and two halves, in name order; 7 is the refusal."""
+    entries = {}
+    for name, start, first, second in entries_of(voice, section):
+        if start + first + second > header.frames:
+            raise Refused(7, f"entry {shown_text(name)} ends at period {start + first + second}, past the frames")
+        if name in entries:
+            raise Refused(7, f"{shown_text(name)} stands twice")
+        entries[name] = start, first, second
+    if not entries:
+        raise Refused(7, "the index is empty")
+    return dict(sorted(entries.items()))
+
+
 # ---- call sheets
 
 MOST = 4096  # segments, and targets
@@ -274,3 +390,20 @@ def sheet_bytes(segments, targets=()):
     for pos, f0 in targets:
         out += [value_bytes(pos), value_bytes(f0)]
     return b"".join(out)
+
+
+# ---- pairs
+
+VOWELS = b"aa ae ah ao aw ax axr ay eh el em en er ey ih iy ow oy uh uw".split()
+CONSONANTS = b"b ch d dh dx f g hh hv jh k l m n nx ng p r s sh t th v w y z zh pau h# brth".split()
+
+
+def names_tried(segments, place, fold):
+    """The names that a pair tries: `left_-_right` where the left phone is no vowel and its follower a consonant, then
+    `left-right`; with fold `ah` counts as `aa`."""
+    folded = lambda segment: b"aa" if fold and segment.name == b"ah" else segment.name
+    left, right = folded(segments[place]), folded(segments[place + 1])
+    follower = segments[place].follower
+    if left not in VOWELS and follower and folded(segments[follower - 1]) in CONSONANTS:
+        yield left + b"_-_" + right
+    yield left + b"-" + right

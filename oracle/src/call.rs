@@ -1,5 +1,6 @@
-//! A call as document 01 words it, as far as its refusals 10 to 12 reach:
-//! units, target ends and marks. The samples themselves come from the Rust.
+//! A call as document 01 words it, as far as its refusals 16 and 10 to 12
+//! reach: names, units, target ends and marks. The samples themselves come from
+//! the Rust.
 
 use crate::phoneset;
 use crate::refusal::Refusal;
@@ -30,6 +31,8 @@ pub struct Settings {
     /// Nothing where the call names no filter.
     pub filter: Option<Filter>,
     pub fold: bool,
+    /// Whether a call with a pair that finds no name is refused.
+    pub strict: bool,
 }
 
 pub const JOINS: [Join; 3] = [Join::None, Join::Simple, Join::Modified];
@@ -47,13 +50,22 @@ pub fn filter_name(named: Option<Filter>) -> &'static str {
 }
 
 impl Settings {
-    /// Every setting that can be expressed; those that name no filter are the
-    /// last.
+    /// Every setting that can be expressed; the strict ones are the last.
     pub fn all() -> Vec<Settings> {
+        [Settings::loose(), Settings::strict()].concat()
+    }
+
+    pub fn strict() -> Vec<Settings> {
+        let strictly = |settings: Settings| settings.strictly(true);
+        Settings::loose().into_iter().map(strictly).collect()
+    }
+
+    /// Those that are not strict; the ones that name no filter are the last.
+    pub fn loose() -> Vec<Settings> {
         [Settings::named(), Settings::with(&[None])].concat()
     }
 
-    /// Those that name a filter.
+    /// Those of them that name a filter.
     pub fn named() -> Vec<Settings> {
         Settings::with(&FILTERS.map(Some))
     }
@@ -64,11 +76,21 @@ impl Settings {
         for join in JOINS {
             for &filter in filters {
                 for fold in [false, true] {
-                    all.push(Settings { join, filter, fold });
+                    let any = Settings::new(join);
+                    all.push(Settings {
+                        filter,
+                        fold,
+                        ..any
+                    });
                 }
             }
         }
         all
+    }
+
+    /// These settings, strict or not.
+    pub fn strictly(self, strict: bool) -> Settings {
+        Settings { strict, ..self }
     }
 
     /// The filter that a call ends up with: the one that it names, else float.
@@ -77,7 +99,8 @@ impl Settings {
     }
 
     /// The word of the settings, as include/diphone.h has it: join, 4 for the
-    /// fixed filter, 8 for the float filter or 0 for none named, 16 for fold.
+    /// fixed filter, 8 for the float filter or 0 for none named, 16 for fold, 32
+    /// for strict.
     pub fn word(self) -> u32 {
         let join = match self.join {
             Join::None => 0,
@@ -89,7 +112,7 @@ impl Settings {
             Some(Filter::Float) => 8,
             None => 0,
         };
-        join | filter | 16 * u32::from(self.fold)
+        join | filter | 16 * u32::from(self.fold) | 32 * u32::from(self.strict)
     }
 
     pub fn new(join: Join) -> Settings {
@@ -97,6 +120,7 @@ impl Settings {
             join,
             filter: Some(Filter::Fixed),
             fold: false,
+            strict: false,
         }
     }
 }
@@ -133,10 +157,42 @@ pub fn tried(sheet: &Sheet, left: usize, fold: bool) -> Vec<String> {
     names
 }
 
+/// What an adjacent pair of segments tries and finds.
+#[derive(Clone, Debug, PartialEq, Eq)]
+pub struct Pair {
+    /// In this order; of two names the first is the cluster name.
+    pub tried: Vec<String>,
+    /// The place of the first one that the voice has.
+    pub found: Option<usize>,
+}
+
+impl Pair {
+    /// The name that it finds.
+    pub fn name(&self) -> Option<&String> {
+        self.found.map(|place| &self.tried[place])
+    }
+}
+
+/// The pairs of a sheet, in order.
+pub fn pairs(voice: &Voice, sheet: &Sheet, fold: bool) -> Vec<Pair> {
+    let pair = |left| {
+        let tried = tried(sheet, left, fold);
+        let found = tried.iter().position(|name| voice.find(name).is_some());
+        Pair { tried, found }
+    };
+    let count = sheet.segments.len().saturating_sub(1);
+    (0..count).map(pair).collect()
+}
+
+/// Whether some pair finds none of the names that it tries.
+pub fn is_missing(pairs: &[Pair]) -> bool {
+    pairs.iter().any(|pair| pair.found.is_none())
+}
+
 /// Whether every pair finds its first-tried name.
 pub fn finds_all_first_tried(voice: &Voice, sheet: &Sheet, fold: bool) -> bool {
-    let pairs = sheet.segments.len().saturating_sub(1);
-    (0..pairs).all(|left| voice.find(&tried(sheet, left, fold)[0]).is_some())
+    let pairs = pairs(voice, sheet, fold);
+    pairs.iter().all(|pair| pair.found == Some(0))
 }
 
 fn chosen<'v, 'a>(voice: &'v Voice<'a>, sheet: &Sheet, left: usize, fold: bool) -> &'v Entry<'a> {
@@ -168,7 +224,7 @@ pub fn units(voice: &Voice, sheet: &Sheet, fold: bool) -> Vec<Unit> {
     units
 }
 
-/// The marks that a call makes, or its refusal with 10 to 12.
+/// The marks that a call makes, or its refusal with 16 or 10 to 12.
 pub fn marks(voice: &Voice, sheet: &Sheet, settings: Settings) -> Result<Vec<usize>, Refusal> {
     let mut marks = Vec::new();
     make_marks(voice, sheet, settings, &mut marks)?;
@@ -182,6 +238,9 @@ pub fn make_marks(
     settings: Settings,
     marks: &mut Vec<usize>,
 ) -> Result<(), Refusal> {
+    if settings.strict && is_missing(&pairs(voice, sheet, settings.fold)) {
+        return Err(Refusal::MissingPair);
+    }
     if settings.join == Join::None || sheet.segments.len() < 2 {
         return Ok(());
     }

@@ -2,8 +2,10 @@
 //! by document 01.
 
 use crate::call::{self, Settings};
+use crate::diphone::DiphoneVoice;
 use crate::dsp;
 use crate::lent::{Buffers, WIDTHS};
+use crate::pairs;
 use crate::period_report::{self, Line};
 use crate::reference::{self, Filled, Fitness, Parsed};
 use crate::refusal::Refusal;
@@ -13,11 +15,23 @@ use crate::voicefile::{self, Voice};
 
 pub const SHORT_BUFFER: usize = 13;
 
+/// Every number that a call can answer.
+pub fn answers() -> impl Iterator<Item = usize> {
+    (0..=SHORT_BUFFER).chain([Refusal::MissingPair.number()])
+}
+
 /// The most that a call may make.
 #[derive(Clone, Copy, Debug, PartialEq, Eq)]
 pub struct Most {
     pub marks: usize,
     pub samples: usize,
+}
+
+impl Most {
+    pub const ANY: Most = Most {
+        marks: usize::MAX,
+        samples: usize::MAX,
+    };
 }
 
 /// What a call gives apart from its buffers' lengths.
@@ -62,23 +76,38 @@ pub fn given(voice: &[u8], sheet: &[u8], settings: Settings, most: Most) -> Opti
     }
 }
 
-/// The voice, the sheet and the marks by document 01, or its refusal. An error
-/// without a refusal says that there are more marks than `most`.
+/// The voice, the sheet and the marks by document 01, or its refusal, with 16
+/// where the Rust finds no name too. An error without a refusal says that there
+/// are more marks than `most`.
 fn read<'a>(
-    voice: &'a [u8],
+    file: &'a [u8],
     sheet: &[u8],
     settings: Settings,
     most: usize,
 ) -> Result<(Voice<'a>, Sheet, Vec<usize>), Option<Refusal>> {
-    let voice = voicefile::open(voice)?;
+    let voice = voicefile::open(file)?;
     let sheet = sheet::read(sheet)?;
     let mut marks = Vec::new();
     let made = call::make_marks(&voice, &sheet, settings, &mut marks);
+    let missing = settings.strict && {
+        let pairs = pairs::agreed(&parsed(file), &voice, &sheet, settings);
+        call::is_missing(&pairs)
+    };
+    let refused = made == Err(Refusal::MissingPair);
+    assert_eq!(missing, refused, "16 by the Rust and by document 01");
     if marks.len() > most {
         return Err(None);
     }
     made?;
     Ok((voice, sheet, marks))
+}
+
+/// A good voice as the Rust parses it.
+fn parsed(file: &[u8]) -> Box<DiphoneVoice> {
+    match reference::parse(file) {
+        Parsed::Voice(rust) => rust,
+        _ => panic!("the Rust does not open a good voice"),
+    }
 }
 
 /// The call as the Rust speaks it. Nothing where that would take long.
@@ -89,9 +118,7 @@ fn speak(
     settings: Settings,
     marks: &[usize],
 ) -> Option<Spoken> {
-    let Parsed::Voice(rust) = reference::parse(file) else {
-        panic!("the Rust does not open a good voice");
-    };
+    let rust = parsed(file);
     let periods = match reference::fitness(voice, sheet, settings, marks) {
         Fitness::Fit => reference::speak(&rust, sheet, settings),
         // Fewer than two segments: document 01 gives zero periods.

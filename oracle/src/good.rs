@@ -6,9 +6,10 @@ use crate::diphone::access;
 use crate::diphone::DiphoneVoice;
 use crate::dsp;
 use crate::gen::voices::{self, Extent, Vocabulary, VoiceSpec};
-use crate::gen::{empty_heads, sheets};
+use crate::gen::{empty_heads, shaped, sheets};
+use crate::pairs;
 use crate::reference::{self, Fitness, Parsed};
-use crate::refusal::{shown, Refusal, REFUSALS};
+use crate::refusal::{shown, ByNumber, Refusal};
 use crate::report::Report;
 use crate::rng::Rng;
 use crate::sheet::{self, Sheet};
@@ -16,6 +17,10 @@ use crate::taking::{self, Taking};
 use crate::voicefile::{self, Voice};
 
 const SHEETS_PER_VOICE: usize = 3;
+
+/// Segments of a long sheet, and entries of a wide voice.
+const SEGMENTS: usize = 120;
+const ENTRIES: usize = 4_200;
 
 /// Units times marks of the calls whose marks are taken unit by unit.
 const MOST_TAKEN: usize = 4_000;
@@ -30,9 +35,11 @@ pub struct Counts {
     /// Calls spoken with their periods and samples, by join and by what they say
     /// of their filter.
     pub spoken: [[[u64; 3]; NAMED.len()]; 3],
-    pub refused: [u64; REFUSALS + 1],
+    pub refused: ByNumber,
     /// Pairs by the name found: the first tried, the second, none.
     pub found: [u64; 3],
+    /// Strict calls that are as if not strict, and those refused with 16.
+    pub strict: [u64; 2],
     pub laws: u64,
     /// Calls whose marks were taken unit by unit too, and their marks.
     pub told_twice: [u64; 2],
@@ -83,8 +90,34 @@ pub fn run_empty_heads(seed: u64, case: u64, report: &mut Report, counts: &mut C
         report,
         counts,
     };
-    for settings in Settings::all() {
+    for settings in Settings::loose() {
         one.speak(&voice, &sheet, settings);
+    }
+}
+
+/// A voice shaped to a sheet: of any extent, small, or of many entries, in
+/// order and not.
+pub fn run_shaped(seed: u64, case: u64, report: &mut Report, counts: &mut Counts) {
+    let rng = &mut Rng::for_case(seed, 4_600_000 + case);
+    let manner = shaped::MANNERS[case as usize % shaped::MANNERS.len()];
+    let fold = rng.once_in(2);
+    let (spec, sheet) = match case % 5 {
+        0 | 1 => shaped::any(rng, fold, manner),
+        2 | 3 => shaped::little(rng, fold, manner),
+        _ => {
+            let (spec, sheet) = shaped::long(rng, fold, manner, SEGMENTS);
+            let ordered = rng.once_in(2);
+            (voices::widened(rng, &spec, ENTRIES, ordered), sheet)
+        }
+    };
+    let file = voices::file(&spec.sections());
+    if let Some(voice) = Opened::new(&file, case, report) {
+        let mut one = Case {
+            case,
+            report,
+            counts,
+        };
+        one.strict(&voice, &sheet);
     }
 }
 
@@ -204,8 +237,11 @@ impl Case<'_> {
             self.read_back(&second);
             let begins = second.begins_with(&first);
             self.report.check(begins, || "longer sheet".to_string());
-            self.count_names(&old.read, &first);
-            for settings in Settings::all() {
+            for sheet in [&first, &second] {
+                self.strict(old, sheet);
+                self.strict(new, sheet);
+            }
+            for settings in Settings::loose() {
                 self.law(old, new, &first, &second, settings);
             }
         }
@@ -219,12 +255,36 @@ impl Case<'_> {
             .equal(&Ok(sheet.clone()), &found, || format!("case {case}: sheet"));
     }
 
-    fn count_names(&mut self, voice: &Voice, sheet: &Sheet) {
-        for left in 0..sheet.segments.len().saturating_sub(1) {
-            let tried = call::tried(sheet, left, false);
-            let found = tried.iter().position(|name| voice.find(name).is_some());
-            self.counts.found[found.unwrap_or(2)] += 1;
+    /// Strict calls, folded and not, are refused with 16 where the Rust finds no
+    /// name for some pair, and are else as if not strict.
+    fn strict(&mut self, voice: &Opened, sheet: &Sheet) {
+        for fold in [false, true] {
+            let settings = JOINS.map(|join| Settings {
+                fold,
+                ..Settings::new(join)
+            });
+            let pairs = pairs::agreed(&voice.rust, &voice.read, sheet, settings[0]);
+            for pair in &pairs {
+                self.counts.found[pair.found.unwrap_or(2)] += 1;
+            }
+            let lacking = call::is_missing(&pairs);
+            self.counts.strict[usize::from(lacking)] += JOINS.len() as u64;
+            for loose in settings {
+                self.strict_marks(voice, sheet, loose, lacking);
+            }
         }
+    }
+
+    fn strict_marks(&mut self, voice: &Opened, sheet: &Sheet, loose: Settings, lacking: bool) {
+        let expected = match lacking {
+            true => Err(Refusal::MissingPair),
+            false => call::marks(&voice.read, sheet, loose),
+        };
+        let found = call::marks(&voice.read, sheet, loose.strictly(true));
+        let case = self.case;
+        self.report.check(expected == found, || {
+            format!("case {case}: {loose:?}: marks of the strict call")
+        });
     }
 
     /// Speaks three calls under one setting and compares them by the law on

@@ -31,6 +31,7 @@ mod lines;
 mod marking;
 #[cfg(all(feature = "diphone_c", feature = "probe_call"))]
 mod openings;
+mod pairs;
 mod period_report;
 #[cfg(feature = "probe")]
 mod probe;

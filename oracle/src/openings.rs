@@ -9,7 +9,7 @@ use crate::gen::damaged_voices::{self, InRust};
 use crate::gen::voices::{self, EntrySpec, Extent, VoiceSpec};
 use crate::reference::{self, Parsed};
 use crate::probe_voice;
-use crate::refusal::{Refusal, REFUSALS};
+use crate::refusal::{numbered, ByNumber, Refusal, LAST};
 use crate::report::Report;
 use crate::rng::Rng;
 use crate::voicefile::{self, Voice};
@@ -33,8 +33,8 @@ struct Counts {
     /// Periods read one by one.
     periods: u64,
     /// By the number answered; 0 counts the voices opened.
-    answers: [u64; SHORT_BUFFER + 1],
-    rust_opens: [u64; REFUSALS + 1],
+    answers: ByNumber,
+    rust_opens: ByNumber,
 }
 
 pub fn run(args: &Args) -> bool {
@@ -106,7 +106,7 @@ fn untouched(
     let [index, record] = &mut buffers;
     let answer = diphone_c::open(file, index, record) as usize;
     report.equal(&number, &answer, || format!("answer with buffers of {lengths:?} bytes"));
-    counts.answers[answer.min(SHORT_BUFFER)] += 1;
+    counts.answers[answer.min(LAST)] += 1;
     let kept = buffers.iter().flatten().all(|byte| *byte == GUARD);
     report.check(kept, || format!("refusal {number} writes"));
 }
@@ -124,7 +124,7 @@ fn opened(rng: &mut Rng, file: &[u8], voice: &Voice, report: &mut Report, counts
     let [mut index, mut record] = lengths.map(|length| rng.bytes(length));
     let expected = expected(voice, &index, &record);
     let answer = diphone_c::open(file, &mut index, &mut record);
-    counts.answers[(answer as usize).min(SHORT_BUFFER)] += 1;
+    counts.answers[(answer as usize).min(LAST)] += 1;
     report.equal(&0, &answer, || "a good voice".to_string());
     report.equal(&expected, &(index.clone(), record), || "index and record".to_string());
     match reference::parse(file) {
@@ -273,14 +273,4 @@ fn print(seed: u64, cases: u64, report: &Report, counts: &Counts) {
         "oracle openings: {} checks, {} mismatches",
         report.checks, report.failures
     );
-}
-
-fn numbered(counts: &[u64]) -> String {
-    let shown: Vec<String> = counts
-        .iter()
-        .enumerate()
-        .filter(|(_, count)| **count > 0)
-        .map(|(number, count)| format!("{number}: {count}"))
-        .collect();
-    shown.join(", ")
 }

@@ -15,6 +15,7 @@ pub enum Refusal {
     Slope = 10,
     TooFar = 11,
     TooManyMarks = 12,
+    MissingPair = 16,
 }
 
 impl Refusal {
@@ -24,8 +25,20 @@ impl Refusal {
     }
 }
 
-/// How many refusals there are here.
-pub const REFUSALS: usize = 12;
+/// The largest number of a call's refusal.
+pub const LAST: usize = 16;
+
+/// Counts by a number of document 01's table; 0 counts what is not refused.
+pub type ByNumber = [u64; LAST + 1];
+
+/// The numbers that were met, for printing.
+pub fn numbered(counts: &ByNumber) -> String {
+    let met = counts.iter().enumerate().filter(|(_, count)| **count > 0);
+    let shown: Vec<String> = met
+        .map(|(number, count)| format!("{number}: {count}"))
+        .collect();
+    shown.join(", ")
+}
 
 /// The answer for printing: `accepted` or the number.
 pub fn shown(answer: Option<Refusal>) -> String {

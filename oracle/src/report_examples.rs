@@ -13,11 +13,6 @@ use crate::sheet::{write, Segment, Sheet, Target, Value};
 use crate::taking::{Taking, Tally};
 use crate::voicefile;
 
-const ANY: Most = Most {
-    marks: usize::MAX,
-    samples: usize::MAX,
-};
-
 pub fn run(report: &mut Report) {
     printed(report);
     empty_heads(report);
@@ -50,7 +45,7 @@ impl Example {
                 filter,
                 ..Settings::new(self.join)
             };
-            match expected::given(&voice, &write(&self.sheet), settings, ANY) {
+            match expected::given(&voice, &write(&self.sheet), settings, Most::ANY) {
                 Some(Given::Spoken(spoken)) => spoken,
                 _ => panic!("an example is refused"),
             }

@@ -4,12 +4,13 @@
 use crate::args::Args;
 use crate::call::{self, Settings, JOINS, NAMED};
 use crate::examples;
+use crate::expected::{self, Given, Most, SHORT_BUFFER};
 use crate::gen::damaged_calls::{self, LabelledCall};
 use crate::gen::damaged_voices::{self, DamagedVoice, InRust};
-use crate::gen::{damaged_sheets, sheets, voices, Labelled};
+use crate::gen::{damaged_sheets, shaped, sheets, strict_calls, voices, Labelled};
 use crate::good;
 use crate::reference::{self, Fitness, Parsed};
-use crate::refusal::{shown, Refusal, REFUSALS};
+use crate::refusal::{numbered, shown, ByNumber, Refusal};
 use crate::report::Report;
 use crate::report_examples;
 use crate::rng::Rng;
@@ -23,15 +24,16 @@ const CASES: u64 = 80;
 /// Voices with periods without samples at the heads of units.
 const EMPTY_HEADS: u64 = 40;
 
+/// Voices shaped to what the pairs of a sheet find.
+const SHAPED: u64 = 120;
+
 /// Random voices and sheets that are damaged in every way.
 const DAMAGED_VOICES: u64 = 12;
 const DAMAGED_SHEETS: u64 = 40;
 
-/// Damages by their number; 0 counts those just inside a limit.
-type ByNumber = [u64; REFUSALS + 1];
-
 #[derive(Default)]
 struct Counts {
+    /// Damages by their number; 0 counts those just inside a limit.
     damages: ByNumber,
     /// Damaged voices that the Rust refuses, by number.
     rust_refuses: ByNumber,
@@ -41,6 +43,8 @@ struct Counts {
     not_called: u64,
     limit_calls: u64,
     limit_calls_spoken: u64,
+    /// Strict calls by their number.
+    strict: ByNumber,
 }
 
 pub fn run(args: &Args) -> bool {
@@ -55,10 +59,14 @@ pub fn run(args: &Args) -> bool {
     for case in 0..EMPTY_HEADS {
         good::run_empty_heads(args.seed, case, &mut report, &mut good_counts);
     }
+    for case in 0..SHAPED {
+        good::run_shaped(args.seed, case, &mut report, &mut good_counts);
+    }
     check_voices(args.seed, &mut report, &mut counts);
     check_sheets(args.seed, &mut report, &mut counts);
     check_calls(&mut report, &mut counts);
-    check_reached(&mut report, &counts.damages, &good_counts.listed);
+    check_strict(&mut report, &mut counts);
+    check_reached(&mut report, &counts.damages, &good_counts);
     print(args.seed, &report, &counts, &good_counts);
     report.failures == 0
 }
@@ -131,20 +139,58 @@ fn check_sheets(seed: u64, report: &mut Report, counts: &mut Counts) {
 
 fn check_calls(report: &mut Report, counts: &mut Counts) {
     for case in damaged_calls::all() {
-        let found = refusal(&case.voice, &case.sheet, case.settings);
+        let found = check_call(&case, report, counts);
         counts.limit_calls += 1;
-        counts.damages[case.label.map_or(0, Refusal::number)] += 1;
-        report.check(case.label == found, || {
-            let (label, found) = (shown(case.label), shown(found));
-            format!("{}: label {label}, found {found}", case.reason)
-        });
         if found.is_none() {
             counts.limit_calls_spoken += u64::from(run_accepted(&case, report));
         }
     }
 }
 
-/// The refusal of a whole call with 1 to 12: the voice, the sheet, the call.
+/// A call gets its label by document 01.
+fn check_call(case: &LabelledCall, report: &mut Report, counts: &mut Counts) -> Option<Refusal> {
+    let found = refusal(&case.voice, &case.sheet, case.settings);
+    counts.damages[case.label.map_or(0, Refusal::number)] += 1;
+    report.check(case.label == found, || {
+        let (label, found) = (shown(case.label), shown(found));
+        format!("{}: label {label}, found {found}", case.reason)
+    });
+    found
+}
+
+/// Strict calls get their labels by document 01, and with the names that the
+/// Rust finds. So do calls at a limit whose voices have no name that is tried.
+fn check_strict(report: &mut Report, counts: &mut Counts) {
+    let lacking = damaged_calls::all().into_iter().map(without_names);
+    for case in strict_calls::all().into_iter().chain(lacking) {
+        check_call(&case, report, counts);
+        let given = expected::given(&case.voice, &case.sheet, case.settings, Most::ANY);
+        let found = match given {
+            Some(Given::Refused(refusal)) => Some(refusal),
+            _ => None,
+        };
+        counts.strict[found.map_or(0, Refusal::number)] += 1;
+        report.equal(&case.label, &found, || format!("{}: given", case.reason));
+    }
+}
+
+/// The strict call with no name in its voice: refused with 16 if it has a pair
+/// and its files are good.
+fn without_names(call: LabelledCall) -> LabelledCall {
+    let pairs = sheet::read(&call.sheet).is_ok_and(|sheet| sheet.segments.len() > 1);
+    let label = match call.label {
+        Some(refusal) if refusal <= Refusal::NotFinite => Some(refusal),
+        _ => pairs.then_some(Refusal::MissingPair),
+    };
+    LabelledCall {
+        voice: shaped::without_names(&call.voice),
+        settings: call.settings.strictly(true),
+        label,
+        ..call
+    }
+}
+
+/// The refusal of a whole call, 13 apart: the voice, the sheet, the call.
 fn refusal(voice: &[u8], sheet: &[u8], settings: Settings) -> Option<Refusal> {
     let answer = voicefile::open(voice).and_then(|voice| {
         let sheet = sheet::read(sheet)?;
@@ -177,12 +223,17 @@ fn run_accepted(case: &LabelledCall, report: &mut Report) -> bool {
     true
 }
 
-/// Every number from 1 to 12 must have been met, and the list.
-fn check_reached(report: &mut Report, damages: &ByNumber, listed: &[u64]) {
-    for (number, count) in damages.iter().enumerate() {
-        report.check(*count > 0, || format!("number {number} was not reached"));
+/// Every number but 13 must have been met, the list, pairs of every sort and
+/// strict calls of either.
+fn check_reached(report: &mut Report, damages: &ByNumber, good: &good::Counts) {
+    for number in expected::answers().filter(|number| *number != SHORT_BUFFER) {
+        let met = damages[number] > 0;
+        report.check(met, || format!("number {number} was not reached"));
     }
-    report.check(!listed.contains(&0), || format!("the list: {listed:?}"));
+    let met = [&good.listed[..], &good.found, &good.strict].concat();
+    report.check(!met.contains(&0), || {
+        format!("the list, pairs, strict: {met:?}")
+    });
 }
 
 fn print(seed: u64, report: &Report, counts: &Counts, good: &good::Counts) {
@@ -204,6 +255,8 @@ fn print_good(good: &good::Counts) {
     println!("  good sheets: {}", good.sheets);
     let [first, second, none] = good.found;
     println!("  pairs: {first} found the first name tried, {second} the second, {none} none");
+    let [same, lacking] = good.strict;
+    println!("  strict calls: {same} as if not strict, {lacking} refused with 16");
 }
 
 fn print_damages(counts: &Counts) {
@@ -225,6 +278,10 @@ fn print_damages(counts: &Counts) {
     println!(
         "  calls at a limit: {}, of them {} spoken by the Rust",
         counts.limit_calls, counts.limit_calls_spoken
+    );
+    println!(
+        "  strict calls, 0 not refused: {}",
+        numbered(&counts.strict)
     );
 }
 
@@ -256,13 +313,10 @@ fn print_calls(good: &good::Counts) {
     );
 }
 
+/// Those that are refused.
 fn by_number(counts: &ByNumber) -> String {
-    let shown: Vec<String> = counts
-        .iter()
-        .enumerate()
-        .skip(1)
-        .filter(|(_, count)| **count > 0)
-        .map(|(number, count)| format!("{number}: {count}"))
-        .collect();
-    shown.join(", ")
+    let [_, refused @ ..] = *counts;
+    let mut counts = ByNumber::default();
+    counts[1..].copy_from_slice(&refused);
+    numbered(&counts)
 }

@@ -1,6 +1,6 @@
 /* Makes document 01's example call through the C interface: what it needs, its plan, its pulls, its
- * report; then calls with empty periods, calls that name no filter, and calls and pulls that are refused.
- * Ends with 0 if all is as it should be. */
+ * report; then calls with empty periods, calls that name no filter, strict calls, and calls and pulls that
+ * are refused. Ends with 0 if all is as it should be. */
 #define TEST "call"
 #include "example.h"
 
@@ -14,7 +14,9 @@ enum {
     UNNAMED = DIPHONE_FILTER_UNNAMED,
     FIXED = DIPHONE_FILTER_FIXED,
     FLOAT = DIPHONE_FILTER_FLOAT,
-    FILTER_BITS = FIXED | FLOAT /* the float filter too */
+    FILTER_BITS = FIXED | FLOAT, /* the float filter too */
+    FOLD = DIPHONE_FOLD,
+    STRICT = DIPHONE_STRICT
 };
 
 /* ---- sheets: the segments pau and aa */
@@ -301,7 +303,7 @@ static void example_report(void)
         has_lines(2, numbers, "document 02's lines");
     }
     for (uint32_t filter = UNNAMED; filter <= FILTER_BITS; filter += FIXED) {
-        expect(report(SIMPLE | filter | DIPHONE_FOLD, sizeof lines) == 0, "any filter is reported");
+        expect(report(SIMPLE | filter | FOLD, sizeof lines) == 0, "any filter is reported");
         has_lines(2, numbers, "the filter plays no part in the report");
     }
 }
@@ -490,7 +492,7 @@ static void empty_head(void)
     untouched_report(SIMPLE, 3 * DIPHONE_REPORT_LINE_BYTES - 1, DIPHONE_SHORT_BUFFER, "no line for it");
 }
 
-/* ---- a filter that is not named */
+/* ---- settings that make no difference */
 
 enum { ANSWERS = 3, PLANNED = sizeof need + sizeof lines + ANSWERS * 4 + sizeof lent };
 
@@ -549,13 +551,27 @@ static void unnamed_filter(uint32_t others)
     expect(differing == 1, "the fixed filter's plan has another number in the state, and nothing else");
 }
 
-/* In every join, with the voice and the sheet that are there. */
-static void unnamed_filters(void)
+/* A strict call that is not refused is in everything as the loose one; bits above mean nothing. */
+static void strict_call(uint32_t others)
 {
-    for (uint32_t join = NONE; join <= 3; join += 1) {
-        unnamed_filter(join);
-        unnamed_filter(join | DIPHONE_FOLD);
-    }
+    exact(others);
+    take_all(others, said[0]);
+    take_all(others | STRICT, said[1]);
+    expect(memcmp(said[0], said[1], sizeof said[0]) == 0, "a strict call not refused is as the loose one");
+    take_all(others | UINT32_MAX << 5, said[1]);
+    expect(memcmp(said[0], said[1], sizeof said[0]) == 0, "so it is with bits above");
+}
+
+/* With the voice and the sheet that are there, which has all pairs: in every join, folded and not. */
+static void alike(void)
+{
+    for (uint32_t join = NONE; join <= 3; join += 1)
+        for (uint32_t fold = 0; fold <= FOLD; fold += FOLD) {
+            unnamed_filter(join | fold);
+            unnamed_filter(join | fold | STRICT);
+            for (uint32_t filter = UNNAMED; filter <= FILTER_BITS; filter += FIXED)
+                strict_call(join | fold | filter);
+        }
 }
 
 /* ---- refused calls */
@@ -576,27 +592,35 @@ static void refused_with(uint32_t number, uint32_t settings, const char *what)
     untouched_report(settings, sizeof lines, number, what);
 }
 
-/* Whatever the filter, and where none is named. */
-static void refused(uint32_t number, uint32_t join, const char *what)
+/* Whatever the filter, and where none is named; bits above 5 mean nothing. */
+static void refused_by(uint32_t number, uint32_t others, const char *what)
 {
     for (uint32_t filter = UNNAMED; filter <= FILTER_BITS; filter += FIXED)
-        refused_with(number, join | filter, what);
+        refused_with(number, others | filter, what);
+    refused_with(number, others | UINT32_MAX << 6, what);
+}
+
+/* Strict or not. */
+static void refused(uint32_t number, uint32_t join, const char *what)
+{
+    refused_by(number, join, what);
+    refused_by(number, join | STRICT, what);
 }
 
 /* Each buffer one byte short. */
-static void short_buffers(uint32_t filter)
+static void short_buffers(uint32_t others)
 {
-    exact(SIMPLE);
+    exact(SIMPLE | others);
     for (int i = 0; i < BUFFERS; i += 1) {
         if (lengths[i] == 0)
             continue;
         lengths[i] -= 1;
-        expect(plan(SIMPLE | filter) == DIPHONE_SHORT_BUFFER, "a buffer one byte short");
+        expect(plan(SIMPLE | others) == DIPHONE_SHORT_BUFFER, "a buffer one byte short");
         for (int k = 0; k < BUFFERS; k += 1)
             past(k, 0);
         lengths[i] += 1;
     }
-    expect(needs(SIMPLE, DIPHONE_NEED_BYTES - 1) == DIPHONE_SHORT_BUFFER, "need one byte short");
+    expect(needs(SIMPLE | others, DIPHONE_NEED_BYTES - 1) == DIPHONE_SHORT_BUFFER, "need one byte short");
     expect(all_guard(need, 0, sizeof need), "need one byte short is left");
 }
 
@@ -659,13 +683,131 @@ static void unfit_calls(void)
     untouched_report(MODIFIED, sizeof lines, DIPHONE_SHORT_BUFFER, "eight marks at sample 0 in five lines");
 }
 
+/* ---- strict calls */
+
+enum { MOST_NAMES = 3, MOST_PHONES = 4 };
+
+/* The names of an index, and phones with their followers; then the answers of strict calls, not folded and
+ * folded. */
+struct pairs {
+    const char *what, *names[MOST_NAMES + 1], *phones[MOST_PHONES + 1];
+    uint8_t followers[MOST_PHONES];
+    uint32_t plain, folded;
+};
+
+static const struct pairs strict_calls[] = {
+    {"no segment", {"pau-aa"}, {NULL}, {0}, 0, 0},
+    {"one segment", {"pau-aa"}, {"q"}, {1}, 0, 0},
+    {"the pair", {"pau-aa"}, {"pau", "aa"}, {0}, 0, 0},
+    {"the pair turned round", {"pau-aa"}, {"aa", "pau"}, {0}, 16, 16},
+    {"the first of three pairs", {"pau-aa", "aa-pau"}, {"q", "pau", "aa", "pau"}, {0}, 16, 16},
+    {"the second", {"pau-aa", "aa-pau"}, {"pau", "aa", "aa", "pau"}, {0}, 16, 16},
+    {"the last", {"pau-aa", "aa-pau"}, {"pau", "aa", "pau", "q"}, {0}, 16, 16},
+    {"none of three", {"pau-aa", "aa-pau"}, {"pau", "aa", "pau", "aa"}, {0}, 0, 0},
+    {"the first entry is no name that is tried", {"a-a", "pau-aa"}, {"pau", "pau"}, {0}, 16, 16},
+    {"a front of a name", {"pau-aa"}, {"pau", "a"}, {0}, 16, 16},
+    {"more than a name", {"pau-aa"}, {"pau", "aaa"}, {0}, 16, 16},
+    {"no names", {"-"}, {"", ""}, {0}, 0, 0},
+    {"a cluster's name", {"n_-_z"}, {"n", "z"}, {2}, 0, 0},
+    {"a cluster by a far follower", {"n_-_z", "z-aa", "aa-k"}, {"n", "z", "aa", "k"}, {4}, 0, 0},
+    {"a cluster by its own number", {"n_-_z"}, {"n", "z"}, {1}, 0, 0},
+    {"a cluster's plain name", {"n-z"}, {"n", "z"}, {2}, 0, 0},
+    {"neither name of a cluster", {"z_-_n", "z-n"}, {"n", "z"}, {2}, 16, 16},
+    {"no follower, so no cluster", {"n_-_z"}, {"n", "z"}, {0}, 16, 16},
+    {"a vowel follows", {"n_-_z", "z-aa"}, {"n", "z", "aa"}, {3}, 16, 16},
+    {"an unknown phone follows", {"n_-_q"}, {"n", "q"}, {2}, 16, 16},
+    {"the left phone is a vowel", {"aa_-_z"}, {"aa", "z"}, {2}, 16, 16},
+    {"the left phone is unknown", {"q_-_z"}, {"q", "z"}, {2}, 0, 0},
+    {"found when folded", {"pau-aa"}, {"pau", "ah"}, {0}, 16, 0},
+    {"not found when folded", {"pau-ah"}, {"pau", "ah"}, {0}, 0, 16},
+    {"found either way", {"ah-n", "aa-n"}, {"ah", "n"}, {0}, 0, 0},
+};
+
+/* The example with these names. */
+static void pairs_voice(uint32_t codec, const struct pairs *pairs)
+{
+    size_t entries = example(codec, 2, 1);
+    uint32_t count = 0;
+
+    length = entries;
+    for (; pairs->names[count] != NULL; count += 1)
+        entry(pairs->names[count], 0, 1, 1);
+    end_index(entries, count);
+}
+
+/* These phones, without ends and targets. */
+static void pairs_sheet(const struct pairs *pairs)
+{
+    sheet_length = 1;
+    for (sheet[0] = 0; pairs->phones[sheet[0]] != NULL; sheet[0] += 1) {
+        const char *name = pairs->phones[sheet[0]];
+        uint8_t before = (uint8_t)strlen(name), after[2] = {2, pairs->followers[sheet[0]]};
+        sheet_bytes(&before, 1);
+        sheet_bytes(name, before);
+        sheet_bytes(after, 2);
+    }
+    sheet_bytes("", 1);
+}
+
+/* Refused with 16 whatever the buffers are, where the loose call is made; or as the loose call. */
+static void strict_answer(uint32_t answer, uint32_t others, const char *what)
+{
+    exact(others);
+    expect(plan(others) == 0, what);
+    if (answer == 0)
+        strict_call(others);
+    else
+        refused_by(answer, others | STRICT, what);
+}
+
+static void missing_pairs(void)
+{
+    for (size_t i = 0; i < sizeof strict_calls / sizeof *strict_calls; i += 1)
+        for (uint32_t join = NONE; join <= 3; join += 1) {
+            const struct pairs *pairs = &strict_calls[i];
+            pairs_voice(join % 2, pairs);
+            pairs_sheet(pairs);
+            strict_answer(pairs->plain, join, pairs->what);
+            strict_answer(pairs->folded, join | FOLD, pairs->what);
+        }
+}
+
+/* With a pair missing 16 comes after the voice and the sheet, and before all else. */
+static void missing_pair_in_order(void)
+{
+    static const struct pairs other = {"another pair", {"q-q"}, {"q", "q", "aa"}, {0}, 16, 16};
+
+    pairs_voice(0, &other);
+    for (uint32_t join = NONE; join <= 3; join += 1) {
+        pairs_sheet(&other);
+        refused_by(16, join | STRICT, "a pair is missing");
+        sheet_length -= 1;
+        refused(8, join, "the sheet is cut behind it");
+        sheet_bytes("\x01\x01\x00\x00\x80\x7F\x02", 7);
+        refused(9, join, "a target behind it is not finite");
+        length -= 1;
+        refused(2, join, "the voice is cut");
+        length += 1;
+    }
+    two_targets(0, 0x3A83126F, 0x7F7FFFFF);
+    refused_by(10, MODIFIED, "a slope not finite");
+    refused_by(16, MODIFIED | STRICT, "a pair missing before a slope");
+    segments(0, 0x7FFFFFFF);
+    sheet_bytes("\x00", 1);
+    refused_by(11, MODIFIED, "a target end too far");
+    refused_by(16, MODIFIED | STRICT, "a pair missing before a target end");
+    two_targets(0x47800000, 0x3F800001, 0x47800000);
+    refused_by(12, MODIFIED, "65,537 marks");
+    refused_by(16, MODIFIED | STRICT, "a pair missing before the marks");
+}
+
 /* ---- other calls */
 
 static void no_join(void)
 {
     exact(NONE);
     expect(six(need, 1, 0, 0, 0, 0, 0), "join none needs the index alone");
-    expect(plan(NONE | FLOAT | DIPHONE_FOLD) == 0, "join none");
+    expect(plan(NONE | FLOAT | FOLD) == 0, "join none");
     expect(six(lent[SUMMARY], 8000, 0, 0, 0, 0, 1), "join none: the summary");
     expect(u32_at(STATE, 0) == 1, "the float filter");
     expect(diphone_pull(lent[STATE], DIPHONE_STATE_BYTES, NULL, 0, NULL, 0, NULL, 0, NULL, 0) == -1,
@@ -678,7 +820,7 @@ static void four_marks(void)
 {
     two_targets(0x42800000, 0x3D800000, 0x42800000);
     exact(UINT32_MAX);
-    expect(plan(UINT32_MAX) == 0, "3 is the modified join too, bits from 5 on mean nothing");
+    expect(plan(UINT32_MAX) == 0, "3 is the modified join too, bits from 6 on mean nothing");
     expect(six(lent[SUMMARY], 8000, 0, 0, 4, 0, 1) && u32_at(STATE, 0) == 1, "every bit: modified, float");
     exact(MODIFIED);
     expect(plan(MODIFIED | FIXED) == 0, "four marks");
@@ -718,7 +860,7 @@ static void from_the_heap(void)
     memcpy(heap[BUFFERS], file, length);
     memcpy(heap[BUFFERS + 1], sheet, sheet_length);
     expect(diphone_plan(heap[BUFFERS], sizes[BUFFERS], heap[BUFFERS + 1], sizes[BUFFERS + 1],
-                        SIMPLE | FLOAT | DIPHONE_FOLD,
+                        SIMPLE | FLOAT | FOLD | STRICT,
                         heap[INDEX], sizes[INDEX], heap[MARKS], sizes[MARKS], heap[SIZES], sizes[SIZES],
                         heap[ROWS], sizes[ROWS], heap[EXCITATION], sizes[EXCITATION], heap[DECODED],
                         sizes[DECODED], heap[STATE], sizes[STATE], heap[SUMMARY], sizes[SUMMARY]) == 0,
@@ -745,7 +887,7 @@ static void g721(void)
     expect(!all_guard(lent[DECODED], 0, 6), "the decode buffer is used");
     past(DECODED, 6);
     example_report();
-    unnamed_filters();
+    alike();
 }
 
 int main(void)
@@ -763,27 +905,31 @@ int main(void)
         for (int i = 0; i < BUFFERS; i += 1)
             lengths[i] += 3;
         for (uint32_t filter = UNNAMED; filter <= FILTER_BITS; filter += FIXED) {
-            expect(plan(SIMPLE | filter | DIPHONE_FOLD) == 0, "longer buffers, other settings");
+            expect(plan(SIMPLE | filter | FOLD) == 0, "longer buffers, other settings");
             expect(u32_at(STATE, 0) == (filter != FIXED), "0 and 3 are the float filter too");
             fills(entries, order);
         }
-        for (uint32_t filter = UNNAMED; filter <= FILTER_BITS; filter += FIXED)
+        for (uint32_t filter = UNNAMED; filter <= FILTER_BITS; filter += FIXED) {
             short_buffers(filter);
+            short_buffers(filter | STRICT);
+        }
         example_report();
-        unnamed_filters();
+        alike();
     }
     example(0, 0, 1);
     empty_reports();
     modified_report();
-    unnamed_filters();
+    alike();
     no_join();
     four_marks();
     g721();
     empty_head();
-    unnamed_filters();
+    alike();
     joints();
-    unnamed_filters();
+    alike();
     from_the_heap();
+    missing_pairs();
+    missing_pair_in_order();
     unfit_voices();
     unfit_sheets();
     unfit_calls();

@@ -117,6 +117,19 @@ static inline size_t example(uint32_t codec, uint32_t order, uint32_t count)
     return entries;
 }
 
+static inline void put_word(size_t at, uint32_t number)
+{
+    for (int i = 0; i < 4; i += 1)
+        file[at + (size_t)i] = (uint8_t)(number >> 8 * i);
+}
+
+/* The last section is an index whose entries begin there: writes their count and the section's length. */
+static inline void end_index(size_t entries, uint32_t count)
+{
+    put_word(entries - 4, count);
+    put_word(entries - 8, (uint32_t)(length - entries + 4));
+}
+
 /* ---- buffers with guards */
 
 #define GUARD 0xA5

@@ -1,6 +1,7 @@
 /* Measures how much stack a call takes: each function runs in a thread whose stack was painted, on
  * voices of either codec, in every join and filter: one whose index is out of order, and one in order
- * of more than 4,096 entries. Ends with 0 if none takes more than the 64 KiB that the header names. */
+ * of more than 4,096 entries. Strict calls are measured too, made and refused. Ends with 0 if none takes
+ * more than the 64 KiB that the header names. */
 #define _XOPEN_SOURCE 700
 #define TEST "stack"
 #define FILE_BYTES 65536
@@ -16,10 +17,16 @@ enum { OPEN, NEED, PLAN, PULL, REPORT, FUNCTIONS };
 static const char *const names[FUNCTIONS] = {"open", "need", "plan", "pull", "report"};
 static const size_t width[6] = {8, 4, 4, 2, 1, 1};
 
-/* Document 01's sheet: pau and aa, no end and no target; then aa, whose follower is pau. */
-static const uint8_t sheet[] = "\x03\x03pau\x02\x00\x02"
-                               "aa\x02\x01\x02"
-                               "aa\x02\x01";
+/* Document 01's sheet: pau and aa, no end and no target; then aa, whose follower is pau. No voice has
+ * aa-aa. */
+static const uint8_t loose_sheet[] = "\x03\x03pau\x02\x00\x02"
+                                     "aa\x02\x01\x02"
+                                     "aa\x02\x01";
+/* The follower of pau is pau, so it tries pau_-_aa before pau-aa, which every voice has. */
+static const uint8_t strict_sheet[] = "\x02\x03pau\x02\x01\x02"
+                                      "aa\x02\x00";
+static const uint8_t *sheet;
+static size_t sheet_length;
 static uint8_t lent[BUFFERS][LENT], samples[LENT], lines[LENT], need[DIPHONE_NEED_BYTES];
 static uint32_t settings;
 
@@ -33,14 +40,14 @@ static int64_t call(int function)
     case OPEN:
         return diphone_open(file, length, lent[INDEX], LENT, lent[SUMMARY], LENT);
     case NEED:
-        return diphone_need(file, length, sheet, sizeof sheet, settings, need, sizeof need);
+        return diphone_need(file, length, sheet, sheet_length, settings, need, sizeof need);
     case PLAN:
-        return diphone_plan(file, length, sheet, sizeof sheet, settings, lent[INDEX], len[INDEX],
+        return diphone_plan(file, length, sheet, sheet_length, settings, lent[INDEX], len[INDEX],
                             lent[MARKS], len[MARKS], lent[SIZES], len[SIZES], lent[ROWS], len[ROWS],
                             lent[EXCITATION], len[EXCITATION], lent[DECODED], len[DECODED], lent[STATE],
                             LENT, lent[SUMMARY], LENT);
     case REPORT:
-        return diphone_report(file, length, sheet, sizeof sheet, settings, lines, LENT);
+        return diphone_report(file, length, sheet, sheet_length, settings, lines, LENT);
     default:
         return diphone_pull(lent[STATE], LENT, lent[SIZES], len[SIZES], lent[ROWS], len[ROWS],
                             lent[EXCITATION], len[EXCITATION], samples, LENT);
@@ -79,30 +86,56 @@ static size_t taken(int function)
     return (size_t)(top - (stack + low));
 }
 
-int main(void)
+/* Runs each function on a sheet, for this answer; what it takes is noted where it is the most yet. */
+static void measure(size_t *most, const uint8_t *of_sheet, size_t of_length, uint32_t number)
 {
-    size_t most[FUNCTIONS] = {0}, all = 0;
-
-    if (posix_memalign((void **)&stack, 4096, STACK) != 0)
-        return 1;
-    for (uint32_t setting = 0; setting < 24; setting += 1) {
-        example(setting % 2, 32, setting < 12 ? 2 : 4098);
-        settings = setting / 2 % 3 | (setting / 6 % 2 == 0 ? DIPHONE_FILTER_FIXED : DIPHONE_FILTER_FLOAT);
-        for (int function = OPEN; function < FUNCTIONS; function += 1) {
-            size_t bytes_taken = taken(function);
-            expect(answer == 0 || (function == PULL && answer >= DIPHONE_DONE), "the call is made");
-            if (bytes_taken > most[function])
-                most[function] = bytes_taken;
-        }
-    }
-    printf("stack: bytes taken by");
+    sheet = of_sheet;
+    sheet_length = of_length;
     for (int function = OPEN; function < FUNCTIONS; function += 1) {
-        printf(" %s %lu", names[function], (unsigned long)most[function]);
+        size_t bytes_taken;
+        if (number != 0 && (function == OPEN || function == PULL))
+            continue;
+        bytes_taken = taken(function);
+        expect(answer == number || (function == PULL && answer >= DIPHONE_DONE), "the answer");
+        if (bytes_taken > most[function])
+            most[function] = bytes_taken;
+    }
+}
+
+/* Prints what each function takes. */
+static void show(const char *what, const size_t *most)
+{
+    size_t all = 0;
+
+    printf("stack: bytes taken by %s", what);
+    for (int function = OPEN; function < FUNCTIONS; function += 1) {
+        if (most[function] > 0)
+            printf(" %s %lu", names[function], (unsigned long)most[function]);
         if (most[function] > all)
             all = most[function];
     }
     printf("\n");
     expect(all > 0 && all <= LIMIT, "no call takes more than 64 KiB of stack");
+}
+
+int main(void)
+{
+    size_t loose[FUNCTIONS] = {0}, strict[FUNCTIONS] = {0}, refused[FUNCTIONS] = {0};
+
+    if (posix_memalign((void **)&stack, 4096, STACK) != 0)
+        return 1;
+    for (uint32_t setting = 0; setting < 24; setting += 1) {
+        uint32_t filter = setting / 6 % 2 == 0 ? DIPHONE_FILTER_FIXED : DIPHONE_FILTER_FLOAT;
+        example(setting % 2, 32, setting < 12 ? 2 : 4098);
+        settings = setting / 2 % 3 | filter;
+        measure(loose, loose_sheet, sizeof loose_sheet, 0);
+        settings |= DIPHONE_STRICT;
+        measure(strict, strict_sheet, sizeof strict_sheet, 0);
+        measure(refused, loose_sheet, sizeof loose_sheet, DIPHONE_MISSING_PAIR);
+    }
+    show("calls:", loose);
+    show("strict calls:", strict);
+    show("calls refused with 16:", refused);
     free(stack);
     if (failures == 0)
         printf("stack: passed\n");

@@ -14,14 +14,8 @@ static uint8_t sheet[SEGMENTS * 9], index_buffer[8 * ENTRIES], record[DIPHONE_VO
 static uint8_t lines[DIPHONE_REPORT_LINE_BYTES * MARKS];
 static size_t sheet_length;
 
-static void put_u32(size_t at, uint32_t number)
-{
-    for (int i = 0; i < 4; i += 1)
-        file[at + (size_t)i] = (uint8_t)(number >> (8 * i));
-}
-
-/* The voice of the example with so many names, ascending or descending. */
-static void voice_of(uint32_t count, int descending)
+/* The voice of the example with so many names, ascending or descending; the first may be another. */
+static void voice_of(uint32_t count, int descending, const char *first)
 {
     size_t entries = example(0, 0, 1);
 
@@ -29,10 +23,9 @@ static void voice_of(uint32_t count, int descending)
     for (uint32_t i = 0; i < count; i += 1) {
         char name[16];
         snprintf(name, sizeof name, "q%05lu", (unsigned long)(descending ? count - i : i));
-        entry(name, 0, 1, 1);
+        entry(first != NULL && i == 0 ? first : name, 0, 1, 1);
     }
-    put_u32(entries - 4, count);
-    put_u32(entries - 8, (uint32_t)(length - entries + 4));
+    end_index(entries, count);
 }
 
 /* The phone k again and again, without an end; the follower of each is the last. */
@@ -77,17 +70,37 @@ static uint32_t opened(void)
     return diphone_open(file, length, index_buffer, sizeof index_buffer, record, sizeof record);
 }
 
-static uint32_t needed(void)
+static uint32_t needed_by(uint32_t settings)
 {
     static uint8_t need[DIPHONE_NEED_BYTES];
 
-    return diphone_need(file, length, sheet, sheet_length, DIPHONE_JOIN_SIMPLE | DIPHONE_FILTER_FIXED, need,
-                        sizeof need);
+    return diphone_need(file, length, sheet, sheet_length, settings, need, sizeof need);
+}
+
+static uint32_t needed(void)
+{
+    return needed_by(DIPHONE_JOIN_SIMPLE | DIPHONE_FILTER_FIXED);
+}
+
+static uint32_t needed_strictly(void)
+{
+    return needed_by(DIPHONE_JOIN_SIMPLE | DIPHONE_STRICT);
+}
+
+static uint32_t needed_strictly_alone(void)
+{
+    return needed_by(DIPHONE_JOIN_NONE | DIPHONE_STRICT);
 }
 
 static uint32_t reported(void)
 {
     return diphone_report(file, length, sheet, sheet_length, DIPHONE_JOIN_SIMPLE, lines, sizeof lines);
+}
+
+static uint32_t reported_strictly(void)
+{
+    return diphone_report(file, length, sheet, sheet_length, DIPHONE_JOIN_SIMPLE | DIPHONE_STRICT, lines,
+                          sizeof lines);
 }
 
 static uint32_t reported_by_targets(void)
@@ -108,13 +121,17 @@ static void within(double most, uint32_t (*call)(void), const char *what)
 
 int main(void)
 {
-    voice_of(ENTRIES, 1);
+    voice_of(ENTRIES, 1, NULL);
     within(2.0, opened, "99,000 names in descending order are opened");
     sheet_of_consonants();
-    voice_of(ENTRIES, 0);
+    voice_of(ENTRIES, 0, NULL);
     within(0.3, needed, "99,000 names in order are looked up for 4,095 pairs");
     within(0.4, reported, "they are looked up for a report");
-    voice_of(2, 0);
+    voice_of(ENTRIES, 0, "k-k");
+    within(0.3, needed_strictly_alone, "a strict call looks k_-_k and k-k up for 4,095 pairs");
+    within(0.4, needed_strictly, "the same, and its units");
+    within(0.5, reported_strictly, "the same, for a report");
+    voice_of(2, 0, NULL);
     within(0.1, needed, "4,096 followers are the last segment");
     within(0.3, reported, "they are followed for a report");
     sheet_of_marks();

@@ -20,7 +20,7 @@ from pathlib import Path
 sys.path.insert(0, str(Path(__file__).resolve().parent.parent / "tools"))
 import cases
 from cases import EXAMPLES, NONE, REPO, Segment, Target, index_bytes, real, sheet, whole
-from formats import Header, Refused, number_of, read_sheet, shown_name, voice_file
+from formats import Header, Refused, number_of, open_voice, read_sheet, shown_name, voice_file
 
 PLAYER = os.environ["PLAYER"]
 VALGRIND = ["valgrind", "--quiet", "--leak-check=full", "--error-exitcode=99"] if shutil.which("valgrind") else None
@@ -28,6 +28,12 @@ EXAMPLE = EXAMPLES / "example.flv", EXAMPLES / "example.sht"
 YARD = EXAMPLES / "yard.flv", EXAMPLES / "yard.sht"
 
 JOINS = "none", "simple", "modified"
+FILTERS = (), ("--filter", "float"), ("--filter=fixed",)
+
+# Every form in which a call can be asked for.
+TABLES = ("--report",), ("--ends",)
+SOUNDS = (), ("--raw",), ("--wav", "-"), ("--wav", "call.wav"), ("--gain", "40")
+FORMS = *SOUNDS, *TABLES, *((*table, "--wav", "call.wav") for table in TABLES)
 
 # The samples of YARD as the Rust speaks them: how many, and the first digits of their SHA-256.
 DIGESTS = {
@@ -57,6 +63,15 @@ class InFolder(unittest.TestCase):
         path = self.folder / name
         path.write_bytes(data)
         return path
+
+    def told(self, words, *more):
+        """Exit status, output and messages of a call in every form, and the WAV file beside them."""
+        path, found = self.folder / "call.wav", []
+        for form in FORMS:
+            done = run(*words, *form, *more, cwd=self.folder)
+            found.append((done, path.read_bytes() if path.exists() else None))
+            path.unlink(missing_ok=True)
+        return found
 
     def unfit(self):
         """The files of calls that are refused, with each number from 1 to 12."""
@@ -466,26 +481,12 @@ class Report(InFolder):
             self.assertEqual((done.returncode, done.stderr[:36]), (1, b"player: cannot write standard output"))
 
 
-TABLES = ("--report",), ("--ends",)
-SOUNDS = (), ("--raw",), ("--wav", "-"), ("--wav", "call.wav"), ("--gain", "40")
-FORMS = *SOUNDS, *TABLES, *((*table, "--wav", "call.wav") for table in TABLES)
-
-
 class Filter(InFolder):
     """Without --filter no filter is named, and all is as with --filter float."""
 
-    def told(self, words, *more):
-        """Exit status, output and messages of a call in every form, and the WAV file beside them."""
-        path, found = self.folder / "call.wav", []
-        for form in FORMS:
-            done = run(*words, *form, *more, cwd=self.folder)
-            found.append((done, path.read_bytes() if path.exists() else None))
-            path.unlink(missing_ok=True)
-        return found
-
     def compare(self, *words):
         """What a call without --filter gives in every form, which has to be that of float, and what fixed gives."""
-        unnamed, named, fixed = (self.told(words, *how) for how in ((), ("--filter", "float"), ("--filter=fixed",)))
+        unnamed, named, fixed = (self.told(words, *how) for how in FILTERS)
         self.assertTrue(unnamed == named, words)  # unittest takes minutes to show how long texts differ
         return unnamed, fixed
 
@@ -542,51 +543,49 @@ class Notes(InFolder):
     def test_pairs(self):
         phones = [b"pau", b"n", b"q", b"ay", b"n", b"b", b"ih"]
         text, message = self.note(YARD[0], sheet([Segment(name) for name in phones]), "--join", "simple")
-        tail = f"2 of 6 pairs not in {YARD[0]}, spoken by its first entry ay-n: n-q, q-ay\n"
-        self.assertEqual(message, f"player: note: {tail}")
+        tail = "n-q, q-ay (--strict refuses such a call)\n"
+        spoken = f"player: note: 2 of 6 pairs not in {YARD[0]}, spoken by its first entry ay-n: {tail}"
+        self.assertEqual(message, spoken)
         self.assertEqual(text.split(b"\n")[0].split()[1], b"72")
-        self.assertEqual(self.note(YARD[0], sheet([Segment(b"n")] * 9), "--join", "none")[1].count("pairs"), 0)
         message = self.note(YARD[0], sheet([Segment(b"n")] * 9), "--join", "simple")[1]
         self.assertIn("8 of 8 pairs not in ", message)
-        self.assertTrue(message.endswith(": n-n, n-n, n-n, n-n, n-n, ..\n"), message)
+        self.assertTrue(message.endswith(": n-n, n-n, n-n, n-n, n-n, .. (--strict refuses such a call)\n"), message)
+        for join in ("none", "modified"):  # no period, so nothing is spoken by the first entry
+            message = self.note(YARD[0], sheet([Segment(name) for name in phones]), "--join", join)[1]
+            self.assertEqual(message.splitlines(True)[1:], [f"player: note: 2 of 6 pairs not in {YARD[0]}: {tail}"])
 
     def test_names_tried(self):
         """A cluster's name first, then the plain one; with fold ah is aa."""
-        index = index_bytes([(b"n_-_z", 0, 1, 1), (b"z-n", 0, 1, 1), (b"n-aa", 0, 1, 1), (b"-", 0, 1, 1)])
-        voice = self.file("few.flv", cases.changed(EXAMPLE[0].read_bytes(), b"dip.index", lambda _: index))
-        calls = [
-            ([Segment(b"n", NONE, 2), Segment(b"z")], (), ""),
-            ([Segment(b"n"), Segment(b"z")], (), "n-z"),  # no follower
-            ([Segment(b"n", NONE, 3), Segment(b"z"), Segment(b"aa")], (), "n-z, z-aa"),  # its follower is a vowel
-            ([Segment(b"n", NONE, 1), Segment(b"z", NONE, 1), Segment(b"n")], (), ""),  # z_-_n is not there, z-n is
-            ([Segment(b"aa", NONE, 2), Segment(b"z")], (), "aa-z"),
-            ([Segment(b"n"), Segment(b"ah")], (), "n-ah"),
-            ([Segment(b"n"), Segment(b"ah")], ("--fold",), ""),
-            ([Segment(b"ah"), Segment(b"n")], ("--fold",), "aa-n"),
-            ([Segment(b""), Segment(b"")], (), ""),
-            ([Segment(b"z" * 32, NONE, 2), Segment(b"n" * 32)], (), "z" * 32 + "-" + "n" * 32),
-        ]
-        for segments, words, named in calls:
-            message = self.note(voice, sheet(segments), "--join", "simple", *words)[1]
-            found = message.split("its first entry -: ")[-1].strip() if message else ""
-            self.assertEqual(found, named, segments)
+        voice = self.file("few.flv", cases.few_names())
+        for (segments, fold, lacking), join in itertools.product(cases.lacking_pairs(), ("none", "simple")):
+            message = self.note(voice, sheet(segments), "--join", join, *["--fold"] * fold)[1]
+            notes = [line for line in message.splitlines() if "the call is empty" not in line]
+            spoken = ", spoken by its first entry -" if join == "simple" else ""
+            told = f"player: note: {missing_text(voice, segments, lacking, spoken)} (--strict refuses such a call)"
+            self.assertEqual(notes, [told] if lacking else [], segments)
 
     def test_as_the_engine_does(self):
-        """Pairs that are not named have units of their own: each entry has other sizes."""
+        """Pairs that are not named have units of their own: each entry has other sizes. A strict call has no others."""
         names = [b"a-b", b"b-a", b"k_-_n", b"k-n", b"n-aa"]
         residuals = [bytes(size) for size in range(1, 2 * len(names) + 1)]
         entries = [(name, 2 * place, 1, 1) for place, name in enumerate(names)]
-        voice = self.file("sizes.flv", voice_file(Header(), [[]] * len(residuals), residuals, entries))
-        draw = random.Random(1)
+        data = voice_file(Header(), [[]] * len(residuals), residuals, entries)
+        voice, found = self.file("sizes.flv", data), open_voice(data).found
+        draw, strict = random.Random(1), set()
         for _ in range(40):
-            phones = [draw.choice([b"a", b"b", b"k", b"n", b"aa", b"ah"]) for _ in range(6)]
-            segments = [Segment(phone, NONE, draw.randrange(7)) for phone in phones]
+            phones = [draw.choice([b"a", b"b", b"k", b"n", b"aa", b"ah"]) for _ in range(draw.choice([2, 3, 6]))]
+            segments = [Segment(phone, NONE, draw.randrange(len(phones) + 1)) for phone in phones]
             text, message = self.note(voice, sheet(segments), "--join", "simple", "--fold")
             sizes = [int(line.split()[1]) for line in text.splitlines()[1:]]
             first = sum(pair == [1, 2] for pair in zip(*[iter(sizes)] * 2) for pair in [list(pair)])
-            right = sum(phones[i : i + 2] == [b"a", b"b"] for i in range(5))
+            right = sum(phones[i : i + 2] == [b"a", b"b"] for i in range(len(phones) - 1))
             missing = int(message.split("note: ")[1].split()[0]) if message else 0
             self.assertEqual(missing + right, first, segments)
+            self.assertEqual(missing, sum(found(segments, i, True) is None for i in range(len(phones) - 1)), segments)
+            done = run(voice, self.folder / "call.sht", "--join", "simple", "--fold", "--strict")
+            self.assertEqual(done[:2], (1, b"") if missing else (0, text), segments)
+            strict.add(done[0])
+        self.assertEqual(strict, {0, 1})
 
     def test_empty(self):
         targets = [Target(NONE, real(100)), Target(real(1), real(100))]
@@ -601,6 +600,99 @@ class Notes(InFolder):
             self.assertEqual(text, b"8000 0 0\n")
             self.assertIn(f"player: note: the call is empty: {why}", message)
         self.assertEqual(self.note(YARD[0], sheet(pair, targets))[1], "")
+
+
+def missing_text(voice, segments, lacking, becomes=""):
+    """How the player tells which pairs are missing; it names five."""
+    names = [tried[-1] for tried in lacking.values()]
+    names[5:] = [".."] if len(names) > 5 else []
+    return f"{len(lacking)} of {len(segments) - 1} pairs not in {voice}{becomes}: {', '.join(names)}"
+
+
+class Strict(InFolder):
+    """With --strict a call with a pair that finds no name is refused with 16, and every other is as without."""
+
+    def refused(self, voice, call, segments, lacking, *words):
+        text = "has pairs of phones that the voice lacks, and the call is strict"
+        message = f"player: refused 16: {call} {text}: {missing_text(voice, segments, lacking)}\n"
+        self.assertEqual(set(self.told((voice, call, *words), "--strict")), {((1, b"", message), None)}, segments)
+
+    def alike(self, *words):
+        """In every form; returns the exit statuses."""
+        loose, strict = self.told(words), self.told(words, "--strict")
+        self.assertTrue(strict == loose, words)  # unittest takes minutes to show how long texts differ
+        return {done[0] for done, _ in strict}
+
+    def test_pairs(self):
+        """In every join; the filter plays no part."""
+        voice, seen = self.file("few.flv", cases.few_names()), set()
+        for segments, fold, lacking in cases.lacking_pairs():
+            call = self.file("call.sht", sheet(segments))
+            for join, how in zip(JOINS, FILTERS):
+                words = "--join", join, *how, *["--fold"] * fold
+                if lacking:
+                    self.refused(voice, call, segments, lacking, *words)
+                else:
+                    self.assertEqual(self.alike(voice, call, *words), {0})
+                seen.add((join, bool(lacking)))
+        self.assertEqual(len(seen), 6)
+
+    def test_alike(self):
+        for files, join, how in itertools.product((EXAMPLE, YARD), JOINS, FILTERS[::2]):
+            self.assertEqual(self.alike(*files, "--join", join, *how), {0})
+        self.assertEqual(self.alike(*YARD, "--fold"), {0})
+
+    def test_refusals(self):
+        """1 to 12 are as without, where no pair is missing."""
+        seen = set()
+        for files in self.unfit():
+            done = run(*files, "--strict")
+            self.assertEqual(done, run(*files))
+            seen.add(int(re.match("player: refused ([0-9]+): ", done[2])[1]))
+        self.assertEqual(seen, set(range(1, 13)))
+
+    def number(self, *words):
+        """Of a refused call."""
+        status, text, message = run(*words)
+        self.assertEqual((status, text), (1, b""), words)
+        return int(re.match("player: refused ([0-9]+): ", message)[1])
+
+    def test_order(self):
+        """With a pair missing: after 1 to 9, before 10 to 12."""
+        pair = self.file("pair.sht", sheet([Segment(b"q"), Segment(b"q")]))
+        for number, what, data in cases.unfit_voices(YARD[0].read_bytes()):
+            self.assertEqual(self.number(self.file("unfit.flv", data), pair, "--strict"), number, what)
+        few = self.file("few.flv", cases.few_names())
+        for number, what, data in [*cases.unfit_sheets(), *cases.unfit_calls()]:
+            call = self.file("unfit.sht", data)
+            self.assertEqual(self.number(few, call), number, what)
+            self.assertEqual(self.number(few, call, "--strict"), number if number < 10 else 16, what)
+        late = self.file("late.sht", sheet([Segment(b"q"), Segment(b"q"), Segment(b"n", cases.bits(cases.NAN))]))
+        self.assertEqual(self.number(few, late, "--strict", "--join=none"), 9)
+
+    def test_large(self):
+        """The last of 4,095 pairs is missing, in a voice of thousands of names that are not in order."""
+        names = [b"p%d" % number for number in range(70)]
+        entries = [(a + b"-" + b, 0, 1, 1) for a in names for b in names]
+        voice = self.file("large.flv", voice_file(Header(), [[], []], [b"\xff", b"\xff"], entries))
+        segments = [Segment(names[number % 70]) for number in range(4095)]
+        for last, lacking in ((b"p1", {}), (b"q", {4095: ["p34-q"]})):
+            call = self.file("large.sht", sheet([*segments, Segment(last)]))
+            if lacking:
+                self.refused(voice, call, read_sheet(call.read_bytes())[0], lacking, "--join=simple")
+            else:
+                self.assertEqual(self.alike(voice, call, "--join=simple"), {0})
+
+    def test_words(self):
+        """Twice is as once, anywhere in the command line; either file may be standard input."""
+        gap = self.file("gap.sht", sheet([Segment(b"n"), Segment(b"q")]))
+        once = run(YARD[0], gap, "--strict")
+        self.assertEqual(once[0], 1)
+        self.assertEqual(run("--strict", YARD[0], "--strict", gap), once)
+        done = run("-", gap, "--strict", input=YARD[0].read_bytes())
+        self.assertEqual(done[2], once[2].replace(str(YARD[0]), "standard input"))
+        done = run(YARD[0], "-", "--strict", input=gap.read_bytes())
+        self.assertEqual(done[2], once[2].replace(str(gap), "standard input"))
 
 
 SHORT = [(b"pau", real(0.1)), (b"n", real(0.2)), (b"ay", real(0.4)), (b"n", real(0.5))]
@@ -732,6 +824,8 @@ class CommandLine(unittest.TestCase):
             (voice, call, "--gain", "nan"),
             (voice, call, "--gain", "61"),
             (voice, call, "--fold=1"),
+            (voice, call, "--strict=1"),
+            (voice, call, "--stric"),
             (voice, call, "--report", "--ends"),
             (voice, call, "--report", "--raw"),
             (voice, call, "--raw", "--ends"),
@@ -754,6 +848,7 @@ class CommandLine(unittest.TestCase):
             self.assertEqual((status, message), (0, ""))
             self.assertTrue(text.startswith(b"usage: player VOICE SHEET"))
             self.assertIn(b"\n  --filter  the arithmetic of the filter; if none is named, one hears float\n", text)
+            self.assertIn(b"\n  --strict  refuse a call with a pair of phones that is not in the voice; ", text)
             self.assertLessEqual(max(map(len, text.splitlines())), 100)
 
     def test_version(self):
@@ -788,7 +883,8 @@ class Memory(InFolder):
             self.assertEqual(run(*words, before=VALGRIND), run(*words), words)
         gap = self.file("gap.sht", sheet([Segment(b"n", NONE, 2), Segment(b"z"), Segment(b"q" * 32)]))
         calls = [(YARD[0], unfit), (unfit, unfit, "--ends"), (YARD[0], "/nowhere/at-all"), ("--help",)]
-        for words in [*calls, (YARD[0], gap, "--join=simple"), (*YARD, "--raw", "--gain", "30")]:
+        calls += [(YARD[0], gap, "--join=simple"), (YARD[0], gap, "--join=none"), (YARD[0], gap, "--strict")]
+        for words in [*calls, (*YARD, "--strict"), (*YARD, "--raw", "--gain", "30")]:
             self.assertEqual(run(*words, before=VALGRIND), run(*words), words)
 
 

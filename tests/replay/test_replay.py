@@ -3,6 +3,7 @@
 The environment variables PLAYER and SPEAK name the programs, STORED_CALLS the file of the calls;
 crates/replay/data/README tells its format.
 """
+import itertools
 import os
 import re
 import struct
@@ -20,10 +21,10 @@ VOICE_LIMIT, SHEET_LIMIT, TEXT_LIMIT = 32_768, 4_096, 41_000
 SPEAK_BUFFERS = 8_192, 4_096, 4_096, 2_048, 4_096, 1_024
 
 JOINS, FILTERS = ("none", "simple", "modified"), (None, "fixed", "float")
-SETTINGS = {(join, how, fold) for join in JOINS for how in FILTERS for fold in (False, True)}
-SPEAK_SETTINGS = "simple", "fixed", False
-SLOPE, SHORT_BUFFER = 10, 13
-ANSWERS = set(range(SHORT_BUFFER + 1))
+SETTINGS = set(itertools.product(JOINS, FILTERS, (False, True), (False, True)))
+SPEAK_SETTINGS = "simple", "fixed", False, False
+SLOPE, SHORT_BUFFER, MISSING_PAIR = 10, 13, 16
+ANSWERS = {*range(SHORT_BUFFER + 1), MISSING_PAIR}
 
 
 class Call(NamedTuple):
@@ -48,10 +49,10 @@ def part(data, place, length):
 
 
 def settings_of(byte):
-    join, how, fold = byte & 3, byte >> 2 & 3, byte >> 4
-    if join > 2 or how > 2 or fold > 1:
+    join, how, fold, strict = byte & 3, byte >> 2 & 3, byte >> 4 & 1, byte >> 5
+    if join > 2 or how > 2 or strict > 1:
         raise ValueError(f"no settings {byte}")
-    return JOINS[join], FILTERS[how], fold == 1
+    return JOINS[join], FILTERS[how], fold == 1, strict == 1
 
 
 def stored(data):
@@ -115,8 +116,8 @@ class Replay(unittest.TestCase):
 
     def by_player(self, call):
         """What the player prints; on standard error stand notes, or a refusal with a sentence behind its number."""
-        join, how, fold = call.settings
-        words = ["--join", join] + (["--filter", how] if how else []) + ["--fold"] * fold
+        join, how, fold, strict = call.settings
+        words = ["--join", join] + (["--filter", how] if how else []) + ["--fold"] * fold + ["--strict"] * strict
         status, text, message = self.run_on(call, PLAYER, "voice.flv", "call.sht", *words)
         if status == 0 and all(line.startswith(b"player: note: ") for line in message.splitlines()):
             return text
@@ -136,14 +137,15 @@ class Replay(unittest.TestCase):
         return text
 
     def test_speak(self):
-        """The program's own settings, with its own buffers or others that do. The simple join makes no slope."""
+        """The program's own settings, which are not strict, with its own buffers or others that do. The simple
+        join makes no slope."""
         calls = [
             call
             for call in CALLS
             if call.settings == SPEAK_SETTINGS and (call.answer != SHORT_BUFFER or call.buffers == SPEAK_BUFFERS)
         ]
         print(f"speak: {len(CALLS) - len(calls)} stored calls with other settings or short buffers are not its own")
-        self.compare("speak", calls, self.by_speak, ANSWERS - {SLOPE}, {SPEAK_SETTINGS})
+        self.compare("speak", calls, self.by_speak, ANSWERS - {SLOPE, MISSING_PAIR}, {SPEAK_SETTINGS})
 
 
 if __name__ == "__main__":

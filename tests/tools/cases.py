@@ -1,4 +1,4 @@
-"""Voices and sheets, fit and unfit, each with the number by which it is refused."""
+"""Voices and sheets, fit and unfit, each with the number by which it is refused; and pairs that a voice lacks."""
 import sys
 from pathlib import Path
 
@@ -141,3 +141,39 @@ def unfit_calls():
     yield 11, "a phone too late", sheet([Segment(b"pau"), Segment(b"n", whole(5000))])
     yield 11, "a period too late", sheet(pair, [Target(NONE, real(1e-4)), Target(real(1), real(1e-4))])
     yield 12, "too many periods", sheet(pair, [Target(NONE, real(60_000)), Target(real(2), real(60_000))])
+
+
+# ---- pairs
+
+
+def few_names():
+    """Document 01's example with other names in its index."""
+    names = b"n_-_z", b"z-n", b"n-aa", b"-"
+    index = index_bytes([(name, 0, 1, 1) for name in names])
+    return changed((EXAMPLES / "example.flv").read_bytes(), b"dip.index", lambda _: index)
+
+
+def lacking_pairs():
+    """(segments, fold, lacking) of sheets for this voice: lacking has the number of each pair that finds no name, and
+    the names that it tries."""
+    yield [], False, {}
+    yield [Segment(b"q")], False, {}
+    yield [Segment(b""), Segment(b"")], False, {}
+    yield [Segment(b"n", NONE, 2), Segment(b"z")], False, {}
+    yield [Segment(b"n"), Segment(b"z")], False, {1: ["n-z"]}  # no follower
+    yield [Segment(b"n", NONE, 3), Segment(b"z"), Segment(b"aa")], False, {1: ["n-z"], 2: ["z-aa"]}  # a vowel follows
+    yield [Segment(b"n", NONE, 2), Segment(b"q")], False, {1: ["n-q"]}  # an unknown phone follows
+    yield [Segment(b"n", NONE, 1), Segment(b"z", NONE, 1), Segment(b"n")], False, {}  # z_-_n is not there, z-n is
+    yield [Segment(b"z", NONE, 1), Segment(b"z", NONE, 1), Segment(b"n")], False, {1: ["z_-_z", "z-z"]}
+    yield [Segment(b"q", NONE, 2), Segment(b"n")], False, {1: ["q_-_n", "q-n"]}  # an unknown phone is no vowel
+    yield [Segment(b"aa", NONE, 2), Segment(b"z")], False, {1: ["aa-z"]}
+    yield [Segment(b"n"), Segment(b"ah")], False, {1: ["n-ah"]}
+    yield [Segment(b"n"), Segment(b"ah")], True, {}
+    yield [Segment(b"ah"), Segment(b"n")], True, {1: ["aa-n"]}
+    longest = b"z" * 32, b"n" * 32
+    yield [Segment(longest[0], NONE, 2), Segment(longest[1])], False, {1: [b"-".join(longest).decode()]}
+    yield [Segment(longest[0], NONE, 3), Segment(longest[1]), Segment(b"n")], False, {
+        1: [b"_-_".join(longest).decode(), b"-".join(longest).decode()],
+        2: [longest[1].decode() + "-n"],
+    }
+    yield [Segment(b"z")] * 9, False, {number: ["z-z"] for number in range(1, 9)}

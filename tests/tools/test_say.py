@@ -39,6 +39,7 @@ class CommandLine(unittest.TestCase):
             status, text, message = say(word)
             self.assertEqual((status, message), (0, ""))
             self.assertIn(b"Usage: tools/real/say ", text)
+            self.assertIn(b"--fold, --strict, --gain\n", text)
             self.assertIn(b"as the player's; if no filter is named, one hears float\n", text)
         self.assertEqual(say("--voice", "list")[:2], (0, b"kal16  16 kHz, mu-law\nkal    8 kHz, G.721\n"))
 
@@ -61,6 +62,7 @@ class CommandLine(unittest.TestCase):
             ("--filter=", "a"),
             ("--filter", "-", "a"),
             ("a", "--filter"),
+            ("--stric", "a"),
             ("--raw", "--wav", "x", "a"),
         ]:
             status, text, message = say(*words)
@@ -121,6 +123,18 @@ class Say(unittest.TestCase):
             self.assertEqual(unnamed == fixed, words == ("--join=none",), words)
         unnamed, named, fixed = (say("--wav", "-", "--gain", "30", "Nine. Turn left.", *how) for how in FILTERS)
         self.assertTrue(unnamed == named != fixed)
+
+    def test_strict(self):
+        """As without --strict, unless a pair of phones is not in the voice."""
+        for join in ("none", "simple", "modified"):
+            words = "--raw", f"--join={join}"
+            self.assertTrue(say(*words, "--strict", "Nine bins.") == say(*words, "Nine bins."), join)
+            status, _, message = say(*words, "Nine bins. Yhng.")
+            self.assertEqual(status, 0)
+            self.assertRegex(message, "player: note: 1 of [0-9]+ pairs not in .*: y-ng ")
+            status, data, message = say(*words, "--strict", "Nine bins. Yhng.")
+            self.assertEqual((status, data), (1, b""))
+            self.assertRegex(message, "player: refused 16: .*: y-ng\nsay: a sentence was not spoken\n")
 
     def test_gain(self):
         """One gain for all sentences, that of the loudest."""

@@ -253,6 +253,79 @@ class Sheet(unittest.TestCase):
         self.assertEqual(run_alone("sheet", "decode", "-", given=b"\2"), (1, b"", message))
 
 
+class Pairs(unittest.TestCase):
+    """tools/sheet pairs."""
+
+    def setUp(self):
+        folder = tempfile.TemporaryDirectory()
+        self.addCleanup(folder.cleanup)
+        self.files = [str(Path(folder.name) / name) for name in ("call.sht", "few.flv")]
+
+    def pairs(self, call, voice, *words, **more):
+        for path, data in zip(self.files, (call, voice)):
+            Path(path).write_bytes(data)
+        return run_alone("sheet", "pairs", *self.files, *words, **more)
+
+    def test_lacking(self):
+        """A line for each pair that finds no name, then how many of how many."""
+        for segments, fold, lacking in cases.lacking_pairs():
+            names = [formats.shown_name(segment.name) for segment in segments]
+            rows = [(str(number), *names[number - 1 : number + 1], *tried) for number, tried in lacking.items()]
+            count = f"{len(lacking)} of {max(0, len(segments) - 1)} pairs not in {self.files[1]}"
+            text = "".join(f"{line}\n" for line in [*map(" ".join, rows), count])
+            found = self.pairs(sheet(segments), cases.few_names(), *["--fold"] * fold)
+            self.assertEqual(found, (1 if lacking else 0, text.encode(), ""), segments)
+
+    def test_examples(self):
+        for name, pairs in (("yard", 8), ("example", 1)):
+            files = [str(EXAMPLES / f"{name}.{kind}") for kind in ("sht", "flv")]
+            text = f"0 of {pairs} pairs not in {files[1]}\n".encode()
+            for words in (files, ["--fold", *files], [files[0], "--fold", files[1]]):
+                self.assertEqual(run_alone("sheet", "pairs", *words), (0, text, ""))
+
+    def test_names(self):
+        """A phone is one word, as in the text; with fold it has the sheet's name."""
+        call = sheet([Segment(b"\\"), Segment(b""), Segment(b"ah")])
+        text = self.pairs(call, cases.few_names(), "--fold")[1].decode()
+        self.assertEqual(text.splitlines()[:2], ["1 \\\\ \\0 \\-", "2 \\0 ah -aa"])
+
+    def test_most(self):
+        call = sheet([Segment(b"n", NONE, 4096)] * 4096)
+        status, text, _ = self.pairs(call, cases.few_names())
+        self.assertEqual((status, len(text.splitlines())), (1, 4096))
+
+    def test_streams(self):
+        call, voice = sheet([Segment(b"n"), Segment(b"z")]), cases.few_names()
+        text = self.pairs(call, voice)[1]
+        self.assertEqual(run_alone("sheet", "pairs", "-", self.files[1], given=call), (1, text, ""))
+        text = text.replace(self.files[1].encode(), b"standard input")
+        self.assertEqual(run_alone("sheet", "pairs", self.files[0], "-", given=voice), (1, text, ""))
+
+    def test_unfit(self):
+        """Exit status 2, so that 1 says one thing alone; the message names the file."""
+        good = sheet([Segment(b"n"), Segment(b"z")]), cases.few_names()
+        unfit = [(number, what, data, good[1]) for number, what, data in cases.unfit_sheets()]
+        voice = (EXAMPLES / "yard.flv").read_bytes()
+        unfit += [(number, what, good[0], data) for number, what, data in cases.unfit_voices(voice)]
+        for number, what, call, data in unfit:
+            status, text, message = self.pairs(call, data)
+            self.assertEqual((status, text, message.count("\n")), (2, b"", 1), what)
+            self.assertRegex(message, f"sheet: {re.escape(self.files[number < 8])}: refused {number}[ :]", what)
+        message = self.pairs(b"segment n - -\n", good[1])[2]
+        self.assertIn("it looks like a text, of which encode makes a sheet", message)
+
+    def test_command_line(self):
+        files = [str(EXAMPLES / name) for name in ("yard.sht", "yard.flv")]
+        for words in [(), files[:1], [files[0], "--fold"], [*files, files[1]], ("-", "-")]:
+            status, text, message = run_alone("sheet", "pairs", *words)
+            self.assertEqual((status, text), (2, b""), words)
+            self.assertIn("Usage: tools/sheet ", message)
+        for words in [("/nowhere/at-all", files[1]), (files[0], "/nowhere/at-all")]:
+            message = "sheet: /nowhere/at-all: No such file or directory\n"
+            self.assertEqual(run_alone("sheet", "pairs", *words), (2, b"", message))
+        self.assertEqual(run_alone("sheet", "encode", *files, "--fold")[0], 2)
+
+
 class VoiceInfo(unittest.TestCase):
     def info(self, data, *words):
         with tempfile.TemporaryDirectory() as folder:
@@ -397,13 +470,13 @@ class Draw(unittest.TestCase):
     def test_simple_join(self):
         """Phones stand where the join puts them: the example has periods of 2 and 3 samples, and no times."""
         files = [(EXAMPLES / f"example.{kind}").read_bytes() for kind in ("flv", "sht")]
-        call = DRAW.Call(formats.read_sheet(files[1]), ["8000 2 5", "1 2 8 132", "2 3 0 -8 -132"], DRAW.Voice(files[0]))
+        voice, read = formats.open_voice(files[0]), formats.read_sheet(files[1])
+        call = DRAW.Call(read, ["8000 2 5", "1 2 8 132", "2 3 0 -8 -132"], voice)
         self.assertTrue(call.simple)
         self.assertEqual(call.phones, [("pau", 0, 2 / 8000), ("aa", 2 / 8000, 5 / 8000)])
         self.assertEqual([unit.name for unit in call.units], ["pau-aa"])
         self.assertEqual(len(self.drawn(call).findall(".//*[@class='box']")), 2)
-        other = DRAW.Call(formats.read_sheet(files[1]), ["8000 1 5", "1 5 0 0 0 0 0"], DRAW.Voice(files[0]))
-        self.assertFalse(other.simple)
+        self.assertFalse(DRAW.Call(read, ["8000 1 5", "1 5 0 0 0 0 0"], voice).simple)
 
     def test_ends(self):
         """A box for each phone as spoken, with the sample where it ends, and a line there through the samples."""

@@ -13,8 +13,9 @@ use Rattle.base.specs.Lists.{every, orNext}
 use Rattle.base.specs.Buffers.{over}
 use Rattle.base.proofs.ListLaws.{every-pass, every-fail, every-one}
 use Rattle.refusal.specs.declared.Refusal.{Refusal}
-use Rattle.refusal.specs.declared.Refusal.the-variants.{BadMagic, SectionCut, NotDiphone, MissingSection, BadHeader, BadTables, BadIndex, BadSheet, NotFinite, BadSlope, PastLimit, TooManyMarks, ShortBuffer, ShortSlice, BadState}
+use Rattle.refusal.specs.declared.Refusal.the-variants.{ShortBuffer}
 use Rattle.refusal.specs.Number.{numberOf}
+use Rattle.refusal.proofs.NumberLaws.{number-some}
 use Rattle.voice.specs.Voice.{voiceOf}
 use Rattle.sheet.specs.Sheet.{sheetOf}
 use Rattle.lpc.specs.declared.FilterState.{FilterState}
@@ -31,23 +32,6 @@ use Rattle.c_state.specs.State.{bytesOfState}
 use Rattle.c_plan.specs.Plan.{shortReport, refusalOfNeed, needLeft, Handed, refusalOfPlan, handedBy, handedAfter}
 
 -- ---- the answer 0
-
-number-some : (r : Refusal) → 1 ≤ numberOf r
-number-some BadMagic = omega arith
-number-some SectionCut = omega arith
-number-some NotDiphone = omega arith
-number-some MissingSection = omega arith
-number-some BadHeader = omega arith
-number-some BadTables = omega arith
-number-some BadIndex = omega arith
-number-some BadSheet = omega arith
-number-some NotFinite = omega arith
-number-some BadSlope = omega arith
-number-some PastLimit = omega arith
-number-some TooManyMarks = omega arith
-number-some ShortBuffer = omega arith
-number-some ShortSlice = omega arith
-number-some BadState = omega arith
 
 -- 0 is no refusal's number
 pub answered-none : (u : Option Refusal) → 0 ≡ answerOf u → u ≡ none

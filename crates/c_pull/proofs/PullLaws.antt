@@ -30,7 +30,7 @@ use Rattle.c_pull.specs.Pull.{isState, outcomeOf, refusedNumber, numberF
 
 -- ---- minus a number
 
-minus-fits : (n : ℕ) → n ≤ 15 → SFits w64 (negℤ (pos n))
+minus-fits : (n : ℕ) → n ≤ 22 → SFits w64 (negℤ (pos n))
 minus-fits zero h = record { sfits = omega arith }
 minus-fits (suc n) h = record { sfits = omega arith }
 

@@ -6,7 +6,7 @@ use lib.ListN.{length}
 use Rattle.refusal.specs.declared.Refusal.{Refusal}
 use Rattle.refusal.specs.Number.{numberOf, answerOf}
 use Rattle.call.specs.declared.Settings.{Settings}
-use Rattle.call.specs.Numbers.{joinOf, foldOf, settingsOf}
+use Rattle.call.specs.Numbers.{joinOf, isSet, settingsOf}
 use Rattle.reporting.specs.declared.Reported.{Reported}
 use Rattle.reporting.specs.declared.Reported.the-variants.{Made, Refused}
 use Rattle.reporting.specs.Report.{refusalOfReport, reportedOf, linesLeft}
@@ -30,8 +30,8 @@ module _ (file sheet : List ℕ) (o o₁ : Settings) (is : o ≡ o₁) (old : Li
       subst (λ (s : Settings). ReportEnds file sheet s old 0 after) is
       (sym (ap answerOf (reported-made file sheet o (length old) r e k q .0)), left)
 
--- two words that say the same join and the same fold have the same report, whatever their filters
-pub any-filter-in-c : (file sheet : List ℕ) (word word₁ : ℕ) → word % 4 ≡ word₁ % 4 → word / 16 % 2 ≡ word₁ / 16 % 2
+-- two words that differ in their filters alone have the same report
+pub any-filter-in-c : (file sheet : List ℕ) (word word₁ : ℕ) → word % 4 ≡ word₁ % 4 → word / 16 % 2 ≡ word₁ / 16 % 2 → word / 32 % 2 ≡ word₁ / 32 % 2
     → AnyFilter file sheet (settingsOf word) (settingsOf word₁)
 unfolding settingsOf
-any-filter-in-c file sheet word word₁ join fold = any-filter file sheet (settingsOf word) (settingsOf word₁) (ap joinOf join) (ap foldOf fold)
+any-filter-in-c file sheet word word₁ join fold strict = any-filter file sheet (settingsOf word) (settingsOf word₁) (ap joinOf join) (ap isSet fold) (ap isSet strict)

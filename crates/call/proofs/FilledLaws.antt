@@ -14,9 +14,8 @@ use Rattle.base.proofs.BoundLaws.{Each, nil, Below, below-flat}
 use Rattle.base.proofs.BufferLaws.{take-over, length-flat}
 use Rattle.base.proofs.ByteLaws.{length-bytesOf, elements-flat}
 use Rattle.voice.specs.Voice.{Voice, voiceOf}
-use Rattle.voice.specs.Opening.{openingRefusal}
 use Rattle.sheet.specs.declared.Target.{Target}
-use Rattle.sheet.specs.Sheet.{SegmentRead, Sheet, sheetOf, sheetRefusal}
+use Rattle.sheet.specs.Sheet.{SegmentRead, Sheet, sheetOf}
 use Rattle.units.specs.Selecting.{folded}
 use Rattle.units.specs.Units.{unitsOf}
 use Rattle.marks.specs.PitchMarks.{mostMarks}
@@ -29,15 +28,16 @@ use Rattle.call.specs.declared.JoinType.{JoinType}
 use Rattle.call.specs.declared.JoinType.the-variants.{None, Simple, ModifiedLpc}
 use Rattle.call.specs.declared.Settings.{Settings}
 use Rattle.call.specs.Call.{simplePlan, modifiedPlan, planBy, planOf, isSimple, periodsTaken, partsOf, filterIn, periodsOf}
-use Rattle.call.specs.Buffers.{Buffers, filled, checkRefusal, callRefusal, summaryOf}
+use Rattle.call.specs.Buffers.{Buffers, filled, callRefusal, summaryOf}
 use Rattle.call.specs.Machine.{bytesOfPeriods}
+use Rattle.call.proofs.CheckLaws.{passed-all}
 use Rattle.call.proofs.CallLaws.{twoSegments, periods-sized}
 
 -- ---- the marks
 
 pub call-planned : (file sheet : List ℕ) (o : Settings) (b : Buffers) → callRefusal file sheet o b ≡ none → planOf (voiceOf file) (sheetOf sheet) o .refusal ≡ none
-unfolding callRefusal checkRefusal
-call-planned file sheet o b e = next-none (sheetRefusal sheet) _ (next-none (openingRefusal file) _ (next-none _ _ e .0) .1) .1
+unfolding callRefusal
+call-planned file sheet o b e = passed-all file sheet o (next-none _ _ e .0) .plan
 
 pub by-low : (j : JoinType) (v : Voice) (ss : List SegmentRead) (ts : List Target) → planBy j v ss ts .refusal ≡ none → Each Low (planBy j v ss ts .marks)
 unfolding planBy simplePlan modifiedPlan

@@ -3,6 +3,7 @@ pub mod NumberLaws
 pub mod PullLaws
 pub mod MachineLaws
 pub mod CallLaws
+pub mod CheckLaws
 pub mod FilledLaws
 pub mod FewLaws
 pub mod SpokenLaws

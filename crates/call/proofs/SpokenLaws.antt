@@ -4,14 +4,15 @@ use mathlib.Core.Option.{none}
 use Rattle.base.proofs.ListLaws.{next-none}
 use Rattle.voice.proofs.OpeningLaws.{Opens, opens}
 use Rattle.call.specs.Call.{planOf}
-use Rattle.call.specs.Buffers.{callRefusal, checkRefusal, plannedOf, freshOf}
+use Rattle.call.specs.Buffers.{callRefusal, plannedOf, freshOf}
+use Rattle.call.proofs.CheckLaws.{passed-all}
 use Rattle.call.proofs.FilledLaws.{call-planned}
 use Rattle.call.specs.SpokenCall.{SpokenCall, voiceIn, sheetIn}
 
 module _ (c : SpokenCall) where
   pub opened : Opens (voiceIn c)
-  unfolding callRefusal checkRefusal
-  opened = opens (c .voiceFile) (next-none _ _ (next-none _ _ (c .notRefused) .0) .0)
+  unfolding callRefusal
+  opened = opens (c .voiceFile) (passed-all _ _ _ (next-none _ _ (c .notRefused) .0) .opening)
 
   pub planned : planOf (voiceIn c) (sheetIn c) (c .settings) .refusal ≡ none
   planned = call-planned (c .voiceFile) (c .sheetFile) (c .settings) (c .lent) (c .notRefused)

@@ -30,7 +30,7 @@ use Rattle.call.specs.declared.Summary.{Summary}
 use Rattle.call.specs.declared.Called.{Called}
 use Rattle.call.specs.declared.Called.the-variants.{Spoken, Refused}
 use Rattle.call.specs.declared.Planned.{Planned}
-use Rattle.call.specs.Call.{filterIn, planOf, periodsTaken}
+use Rattle.call.specs.Call.{filterIn, planOf, readRefusal, periodsTaken}
 
 pub record Buffers : Type 0 where
   pub index : List ℕ
@@ -112,9 +112,9 @@ fits v s o b = holds (needOf v s o) (lengthsOf b)
 -- ---- the call
 
 -- what refuses a call apart from its buffers: 'A call itself opens the voice and reads the sheet so, then reports target ends .., then
--- marks ..'
+-- marks ..', a strict one its pairs before these
 unfoldable pub checkRefusal : List ℕ → List ℕ → Settings → Option Refusal
-checkRefusal file sheet o = orNext (openingRefusal file) (orNext (sheetRefusal sheet) (planOf (voiceOf file) (sheetOf sheet) o .refusal))
+checkRefusal file sheet o = orNext (openingRefusal file) (orNext (sheetRefusal sheet) (readRefusal (voiceOf file) (sheetOf sheet) o))
 
 -- '.. then 13, in a call the sorted index's too'
 unfoldable pub callRefusal : List ℕ → List ℕ → Settings → Buffers → Option Refusal
@@ -168,7 +168,7 @@ leftBy new old (some r) = old
 unfoldable pub buffersAfter : List ℕ → List ℕ → Settings → Buffers → Buffers
 buffersAfter file sheet o b = leftBy (filled (voiceOf file) (sheetOf sheet) o) b (callRefusal file sheet o b)
 
--- document 01's number for a call's answer: 0 where it is spoken
+-- the number for a call's answer: 0 where it is spoken
 abbrev pub calledNumber : Called → ℕ
 calledNumber (Spoken x) = 0
 calledNumber (Refused r) = numberOf r

@@ -1,19 +1,22 @@
 -- Document 01: the call. What it gives is defined for every voice and sheet; what refuses it stands beside that.
-use mathlib.Core.Bool.{Bool, true, false}
+use mathlib.Core.Bool.{Bool, true, false, _&&_, not}
 use mathlib.Core.List.{List, []}
-use mathlib.Core.Option.{Option, none}
+use mathlib.Core.Option.{Option, none, some}
 use Prim.Native.Nat.{ℕ}
 use lib.Dec.{ltb}
 use lib.ListN.{length}
+use Rattle.base.specs.Choice.{pick}
 use Rattle.base.specs.Lists.{orNext}
 use Rattle.base.specs.Buffers.{flat}
 use Rattle.refusal.specs.declared.Refusal.{Refusal}
+use Rattle.refusal.specs.declared.Refusal.the-variants.{MissingPair}
 use Rattle.voice.specs.Voice.{Voice}
 use Rattle.sheet.specs.declared.Target.{Target}
 use Rattle.sheet.specs.Sheet.{SegmentRead, Sheet}
 use Rattle.units.specs.declared.Unit.{Unit}
 use Rattle.units.specs.Selecting.{folded}
 use Rattle.units.specs.Units.{unitsOf, endRefusal}
+use Rattle.pairs.specs.Pairs.{triedFound}
 use Rattle.marks.specs.PitchMarks.{pitchMarks, mostMarks}
 use Rattle.marks.specs.NaturalMarks.{naturalMarks, naturalUnits, markRefusal}
 use Rattle.excitation.specs.Taken.{Period, taken, sizesOf, rowsOf, excitationOf}
@@ -58,6 +61,17 @@ planBy ModifiedLpc v ss ts = modifiedPlan v (unitsOf v ss) ts
 unfoldable pub planOf : Voice → Sheet → Settings → Plan
 planOf v s o =
     elim (ltb (length (s .segments)) 2) [ true ↦ emptyPlan | false ↦ planBy (o .join) v (folded (o .fold) (s .segments)) (s .targets) ]
+
+-- ---- what refuses a call whose voice is open and whose sheet is read, apart from its buffers
+
+-- document 02, A1: 'It refuses with 16 a strict call in which some pair finds no name that it tries before the sorted first entry, under
+-- every join, ..'
+unfoldable pub missingRefusal : Voice → Sheet → Settings → Option Refusal
+missingRefusal v s o = pick (o .strict && not (triedFound v (o .fold) (s .segments))) (some MissingPair) none
+
+-- '.. after the sheet's checks and before target ends'
+unfoldable pub readRefusal : Voice → Sheet → Settings → Option Refusal
+readRefusal v s o = orNext (missingRefusal v s o) (planOf v s o .refusal)
 
 -- ---- the periods taken, and their samples
 

@@ -18,9 +18,15 @@ joinOf n = pick (eqb n 0) None (pick (eqb n 1) Simple ModifiedLpc)
 unfoldable pub filterOf : ℕ → FilterSetting
 filterOf n = pick (eqb n 0) Unnamed (Named (pick (eqb n 1) Fixed Float))
 
--- bit 4: fold; the bits above it mean nothing
-abbrev pub foldOf : ℕ → Bool
-foldOf n = eqb n 1
+-- bit 4: fold; bit 5: strict; the bits above these mean nothing
+abbrev pub isSet : ℕ → Bool
+isSet bit = eqb bit 1
 
 unfoldable pub settingsOf : ℕ → Settings
-settingsOf word = record { join = joinOf (word % 4); filter = filterOf (word / 4 % 4); fold = foldOf (word / 16 % 2) }
+settingsOf word =
+    record {
+      join = joinOf (word % 4);
+      filter = filterOf (word / 4 % 4);
+      fold = isSet (word / 16 % 2);
+      strict = isSet (word / 32 % 2);
+    }

@@ -23,6 +23,8 @@ pub struct Settings {
     pub join: JoinType,
     pub filter: FilterSetting,
     pub fold: bool,
+    // Whether the call is refused if a pair finds no name that it tries.
+    pub strict: bool,
 }
 
 // The flags of a settings word, as the C header has them.
@@ -56,7 +58,7 @@ fn filter_of(n: u32) -> FilterSetting
     }
 }
 
-// The settings of a word: bits 0 and 1 the join, bits 2 and 3 the filter, bit 4 fold.
+// The settings of a word: bits 0 and 1 the join, bits 2 and 3 the filter, bit 4 fold, bit 5 strict.
 pub fn settings_of(word: u32) -> Settings
     ensures { λ r. ⌜ r ≡ numbers.settingsOf word ⌝ }
 {
@@ -64,6 +66,7 @@ pub fn settings_of(word: u32) -> Settings
         join: join_of(word % 4),
         filter: filter_of(word / 4 % 4),
         fold: word / 16 % 2 == 1,
+        strict: word / 32 % 2 == 1,
     }
 }
 

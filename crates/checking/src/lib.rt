@@ -1,18 +1,20 @@
 // The check of a call, which writes nothing.
 ghost use mathlib.Core.Path.{_≡_};
 ghost use mathlib.Core.Bool.{Bool};
+ghost use mathlib.Core.Option.{none, some};
 ghost use Prim.Native.Nat.{_≤_, _<_};
 ghost use lib.ListN.{length};
+ghost use Rattle.base.specs.Choice.{pick};
 ghost use Rattle.voice.specs.Voice.{Voice, voiceOf};
 ghost use Rattle.voice.specs.Opening.{IsOpen};
 ghost use Rattle.sheet.specs.Sheet.{sheetOf};
 ghost use Rattle.sheet.specs.Places.{answerIn, sheetPlaces};
-ghost use Rattle.units.specs.Asked.{Searchable};
+ghost use Rattle.units.specs.Asked.{Holds, Searchable};
 ghost use Rattle.units.specs.Selecting.{folded};
 ghost use Rattle.units.specs.Units.{unitsOf};
 ghost use Rattle.marks.specs.PitchMarks.{mostMarks};
-ghost use Rattle.call.specs.Call.{simplePlan, modifiedPlan, emptyPlan, planBy, planOf};
-ghost use Rattle.checking.specs.Joining.{Joins, needBy};
+ghost use Rattle.call.specs.Call.{simplePlan, modifiedPlan, emptyPlan, planBy, planOf, missingRefusal};
+ghost use Rattle.checking.specs.Joining.{Asks, Joins, needBy};
 ghost use Rattle.checking.specs.Checks.{checkedOf};
 use call::JoinType;
 use call::Need;
@@ -101,34 +103,6 @@ fn check_natural(file: &[u8], index: &[u8], sheet: &[u8], by: Selection) -> Join
     })
 }
 
-// Makes the marks of the simple join. The call's index buffer is not filled yet; the check is lent
-// another one.
-fn check_simple(file: &[u8], sheet: &[u8], by: Selection, index: &mut [u8]) -> Joined
-    requires { ⌜
-        IsOpen (now file) (by .voice) ×
-        ((answerIn (sheetPlaces (now sheet)) ≡ SheetAnswer.Read (by .places)) ×
-        ((0 < by .places .segments .count) × (8 ≤ length (now index))))
-        ⌝ }
-    ensures { λ r.
-        ⌜
-        Joins
-        (simplePlan (voiceOf (now (file .entry)))
-        (unitsOf (voiceOf (now (file .entry))) (folded (by .fold) (sheetOf (now (sheet .entry)) .segments))))
-        r
-        ⌝ }
-{
-    let voice = by.voice;
-    let places = by.places;
-    let held = units::holding::hold(file, voice, index);
-    let found_by = Selection {
-        voice: voice,
-        held: held,
-        places: places,
-        fold: by.fold,
-    };
-    check_natural(file, index, sheet, found_by)
-}
-
 // Makes the target ends of the modified join, then its pitch marks, at a voice's rate.
 fn check_modified(sheet: &[u8], places: Places, rate: u32) -> Joined
     requires { ⌜ answerIn (sheetPlaces (now sheet)) ≡ SheetAnswer.Read places ⌝ }
@@ -167,11 +141,10 @@ fn no_marks() -> Joined
 }
 
 // The marks of two segments or more.
-fn check_join(file: &[u8], sheet: &[u8], by: Selection, join: JoinType, index: &mut [u8]) -> Joined
+fn check_join(file: &[u8], index: &[u8], sheet: &[u8], by: Selection, join: JoinType) -> Joined
     requires { ⌜
-        IsOpen (now file) (by .voice) ×
-        ((answerIn (sheetPlaces (now sheet)) ≡ SheetAnswer.Read (by .places)) ×
-        ((0 < by .places .segments .count) × (8 ≤ length (now index))))
+        Searchable (now file) (now index) by ×
+        ((answerIn (sheetPlaces (now sheet)) ≡ SheetAnswer.Read (by .places)) × (0 < by .places .segments .count))
         ⌝ }
     ensures { λ r.
         ⌜
@@ -183,38 +156,38 @@ fn check_join(file: &[u8], sheet: &[u8], by: Selection, join: JoinType, index: &
 {
     match join {
         JoinType::None => no_marks(),
-        JoinType::Simple => check_simple(file, sheet, by, index),
+        JoinType::Simple => check_natural(file, index, sheet, by),
         JoinType::ModifiedLpc => check_modified(sheet, by.places, by.voice.header.rate),
     }
 }
 
 // The marks of a call: none where it has fewer than two segments.
-fn check_plan(
-    file: &[u8],
-    d: DiphoneVoice,
-    sheet: &[u8],
-    places: Places,
-    settings: Settings,
-    index: &mut [u8],
-) -> Joined
-    requires { ⌜
-        IsOpen (now file) d ×
-        ((answerIn (sheetPlaces (now sheet)) ≡ SheetAnswer.Read places) × (8 ≤ length (now index)))
-        ⌝ }
+fn check_plan(file: &[u8], index: &[u8], sheet: &[u8], by: Selection, settings: Settings) -> Joined
+    requires { ⌜ Asks (now file) (now index) (now sheet) by settings ⌝ }
     ensures { λ r. ⌜ Joins (planOf (voiceOf (now (file .entry))) (sheetOf (now (sheet .entry))) settings) r ⌝ }
 {
+    let places = by.places;
     let segments = places.segments;
     if segments.count < 2 {
         return no_marks();
     }
-    let by = Selection {
-        voice: d,
-        held: Held::Nothing,
-        places: places,
-        fold: settings.fold,
-    };
     let join = settings.join;
-    check_join(file, sheet, by, join, index)
+    check_join(file, index, sheet, by, join)
+}
+
+// Whether no pair is missed: the call is not strict, or each pair finds a name that it tries.
+fn check_pairs(file: &[u8], index: &[u8], sheet: &[u8], by: Selection, settings: Settings) -> bool
+    requires { ⌜ Asks (now file) (now index) (now sheet) by settings ⌝ }
+    ensures { λ r.
+        ⌜
+        missingRefusal (voiceOf (now (file .entry))) (sheetOf (now (sheet .entry))) settings ≡
+        pick r none (some Refusal.MissingPair)
+        ⌝ }
+{
+    if settings.strict {
+        return pairs::all_found(file, index, sheet, by);
+    }
+    true
 }
 
 // What the buffers of a call with such marks need: fewer than two marks give no period.
@@ -243,7 +216,64 @@ fn need_of(file: &[u8], d: DiphoneVoice, counts: Counts) -> Need
     }
 }
 
-// Checks 10 to 12, of an open voice and a sheet that was read.
+// Checks 16, then 10 to 12, of an open voice and a sheet that was read.
+fn check_held(file: &[u8], index: &[u8], sheet: &[u8], by: Selection, settings: Settings) -> Checked
+    requires { ⌜ Asks (now file) (now index) (now sheet) by settings ⌝ }
+    ensures { λ r. ⌜ r ≡ checkedOf (now (file .entry)) (now (sheet .entry)) settings ⌝ }
+{
+    if !check_pairs(file, index, sheet, by, settings) {
+        return Checked::Refused(Refusal::MissingPair);
+    }
+    match check_plan(file, index, sheet, by, settings) {
+        Joined::Refused(cause) => Checked::Refused(cause),
+        Joined::Made(counts) => {
+            let d = by.voice;
+            let places = by.places;
+            Checked::Passed(Fit {
+                voice: d,
+                places: places,
+                need: need_of(file, d, counts),
+            })
+        }
+    }
+}
+
+// Whether the check looks names up: for the units of the simple join, and in a strict call.
+fn looks_up(settings: Settings) -> bool {
+    if settings.strict {
+        return true;
+    }
+    let join = settings.join;
+    match join {
+        JoinType::None => false,
+        JoinType::Simple => true,
+        JoinType::ModifiedLpc => false,
+    }
+}
+
+// Fills a lent index buffer where names are looked up, since the call's own is not filled yet. Says
+// what it holds then.
+fn hold_for(
+    file: &[u8],
+    d: DiphoneVoice,
+    places: Places,
+    settings: Settings,
+    index: &mut [u8],
+) -> Held
+    requires { ⌜ IsOpen (now file) d × (8 ≤ length (now index)) ⌝ }
+    ensures { λ r. ⌜ Holds (now (file .entry)) (now (index .exit)) d r ⌝ }
+{
+    let segments = places.segments;
+    if segments.count < 2 {
+        return Held::Nothing;
+    }
+    if looks_up(settings) {
+        return units::holding::hold(file, d, index);
+    }
+    Held::Nothing
+}
+
+// Checks 16, then 10 to 12, with room for names that are looked up in a lent buffer.
 fn check_marks(
     file: &[u8],
     d: DiphoneVoice,
@@ -258,17 +288,17 @@ fn check_marks(
         ⌝ }
     ensures { λ r. ⌜ r ≡ checkedOf (now (file .entry)) (now (sheet .entry)) settings ⌝ }
 {
-    match check_plan(file, d, sheet, places, settings, index) {
-        Joined::Refused(cause) => Checked::Refused(cause),
-        Joined::Made(counts) => Checked::Passed(Fit {
-            voice: d,
-            places: places,
-            need: need_of(file, d, counts),
-        }),
-    }
+    let held = hold_for(file, d, places, settings, index);
+    let by = Selection {
+        voice: d,
+        held: held,
+        places: places,
+        fold: settings.fold,
+    };
+    check_held(file, index, sheet, by, settings)
 }
 
-// Checks 8 to 12, of an open voice.
+// Checks 8 to 12 and 16, of an open voice.
 fn check_sheet(
     file: &[u8],
     d: DiphoneVoice,
@@ -285,7 +315,7 @@ fn check_sheet(
     }
 }
 
-// Checks 1 to 12, of any two files, with room for names that are looked up in a lent buffer.
+// Checks 1 to 12 and 16, of any two files, with room for names that are looked up in a lent buffer.
 pub fn check_in(file: &[u8], sheet: &[u8], settings: Settings, index: &mut [u8]) -> Checked
     requires { ⌜ 8 ≤ length (now index) ⌝ }
     ensures { λ r. ⌜ r ≡ checkedOf (now (file .entry)) (now (sheet .entry)) settings ⌝ }
@@ -311,7 +341,7 @@ fn check_indexed(file: &[u8], sheet: &[u8], settings: Settings) -> Checked
     check_in(file, sheet, settings, &mut index)
 }
 
-// The check with the least of room: for a join in which it looks up no name.
+// The check with the least of room: where it looks up no name.
 fn check_bare(file: &[u8], sheet: &[u8], settings: Settings) -> Checked
     ensures { λ r. ⌜ r ≡ checkedOf (now (file .entry)) (now (sheet .entry)) settings ⌝ }
 {
@@ -319,14 +349,12 @@ fn check_bare(file: &[u8], sheet: &[u8], settings: Settings) -> Checked
     check_in(file, sheet, settings, &mut index)
 }
 
-// Checks 1 to 12, of any two files.
+// Checks 1 to 12 and 16, of any two files.
 pub fn check(file: &[u8], sheet: &[u8], settings: Settings) -> Checked
     ensures { λ r. ⌜ r ≡ checkedOf (now (file .entry)) (now (sheet .entry)) settings ⌝ }
 {
-    let join = settings.join;
-    match join {
-        JoinType::None => check_bare(file, sheet, settings),
-        JoinType::Simple => check_indexed(file, sheet, settings),
-        JoinType::ModifiedLpc => check_bare(file, sheet, settings),
+    if looks_up(settings) {
+        return check_indexed(file, sheet, settings);
     }
+    check_bare(file, sheet, settings)
 }

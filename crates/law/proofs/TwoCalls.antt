@@ -58,7 +58,7 @@ two-calls =
       longFiles = (refl, refl);
       longer =
           record {
-            settings = record { join = refl; filter = refl; fold = refl };
+            settings = record { join = refl; filter = refl; fold = refl; strict = refl };
             extends =
                 record {
                   rate = refl;

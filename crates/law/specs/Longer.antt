@@ -10,12 +10,13 @@ use Rattle.call.specs.declared.Settings.{Settings}
 use Rattle.call.specs.Call.{filterIn}
 use Rattle.call.specs.SpokenCall.{SpokenCall, voiceIn, sheetIn}
 
--- 'under the same settings': the join, the filter that a call ends up with, and fold (document 02, A5: 'calls that end up with one filter,
--- their other settings the same')
+-- 'under the same settings': the join, the filter that a call ends up with, fold and strict (document 02, A5: 'calls that end up with one
+-- filter, their other settings the same')
 pub record SameSettings (p o : Settings) : Type 0 where
   pub join : p .join ≡ o .join
   pub filter : filterIn p ≡ filterIn o
   pub fold : p .fold ≡ o .fold
+  pub strict : p .strict ≡ o .strict
 
 -- 'Now take two spoken calls under the same settings, let the second voice extend the first and the second sheet begin with all segments
 -- and targets of the first. If each pair of the first sheet finds its first-tried name in the first voice ..'

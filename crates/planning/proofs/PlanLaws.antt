@@ -6,14 +6,12 @@ use mathlib.Core.Option.{Option, none, some}
 use Prim.Native.Nat.{ℕ}
 use Rattle.base.specs.Choice.{pick}
 use Rattle.base.specs.Lists.{orNext}
-use Rattle.base.proofs.ListLaws.{next-none}
 use Rattle.refusal.specs.declared.Refusal.{Refusal}
 use Rattle.refusal.specs.declared.Refusal.the-variants.{ShortBuffer}
 use Rattle.voice.specs.declared.VoiceHeader.{VoiceHeader}
 use Rattle.voice.specs.Voice.{voiceOf}
-use Rattle.voice.specs.Opening.{openingRefusal}
 use Rattle.voice.proofs.TableLaws.{header-is}
-use Rattle.sheet.specs.Sheet.{sheetOf, sheetRefusal}
+use Rattle.sheet.specs.Sheet.{sheetOf}
 use Rattle.lpc.specs.declared.FilterState.{FilterState}
 use Rattle.lpc.specs.State.{freshState}
 use Rattle.call.specs.declared.Settings.{Settings}
@@ -23,6 +21,7 @@ use Rattle.call.specs.declared.Called.the-variants.{Spoken}
 use Rattle.call.specs.declared.Planned.{Planned}
 use Rattle.call.specs.Call.{filterIn}
 use Rattle.call.specs.Buffers.{Buffers, needOf, holds, lengthsOf, fits, filled, checkRefusal, callRefusal, summaryOf, freshOf, refusedBy, answerBy, plannedOf, overAll, buffersAfter}
+use Rattle.call.proofs.CheckLaws.{passed-all}
 use Rattle.checking.specs.declared.Fit.{Fit}
 use Rattle.checking.specs.declared.Checked.{Checked}
 use Rattle.checking.specs.declared.Checked.the-variants.{Passed, Refused as Fails}
@@ -72,10 +71,9 @@ module _ (file sheet : List ℕ) (o : Settings) (f : Fit) (h : Passes file sheet
   fits-is = ap (λ (n : Need). holds n (lengthsOf b)) (sym (h .need))
 
   pub can-fill : fits (voiceOf file) (sheetOf sheet) o b ≡ true → CanFill file sheet o (f .voice) (f .places) (f .need) b
-  unfolding checkRefusal
   can-fill e =
       record {
-        passed = next-none (sheetRefusal sheet) _ (next-none (openingRefusal file) _ (h .passed) .1) .1;
+        passed = passed-all file sheet o (h .passed) .plan;
         opened = h .opened;
         places = h .places;
         need = h .need;

@@ -1,8 +1,8 @@
--- Document 01, 'Refused calls': the number of each cause.
+-- Document 01, 'Refused calls', and document 02: the number of each cause.
 use mathlib.Core.Option.{Option, none, some}
 use Prim.Native.Nat.{ℕ}
 use Rattle.refusal.specs.declared.Refusal.{Refusal}
-use Rattle.refusal.specs.declared.Refusal.the-variants.{BadMagic, SectionCut, NotDiphone, MissingSection, BadHeader, BadTables, BadIndex, BadSheet, NotFinite, BadSlope, PastLimit, TooManyMarks, ShortBuffer, ShortSlice, BadState}
+use Rattle.refusal.specs.declared.Refusal.the-variants.{BadMagic, SectionCut, NotDiphone, MissingSection, BadHeader, BadTables, BadIndex, BadSheet, NotFinite, BadSlope, PastLimit, TooManyMarks, ShortBuffer, ShortSlice, BadState, MissingPair}
 
 abbrev pub numberOf : Refusal → ℕ
 -- first 8 bytes not `FLRSDAT` and 0x01
@@ -35,8 +35,10 @@ numberOf ShortBuffer = 13
 numberOf ShortSlice = 14
 -- filter state impossible, or coefficients end within the next row
 numberOf BadState = 15
+-- 'some pair finds no name that it tries before the sorted first entry', in a strict call (document 02, A1)
+numberOf MissingPair = 16
 
--- 0, or document 01's number
+-- 0, or the number
 abbrev pub answerOf : Option Refusal → ℕ
 answerOf none = 0
 answerOf (some r) = numberOf r

@@ -2,7 +2,7 @@
 ghost use mathlib.Core.Path.{_≡_};
 ghost use Rattle.refusal.specs.Number.{numberOf};
 
-// Document 01's causes, in the order of its table.
+// Document 01's causes, in the order of its table, then document 02's.
 pub enum Refusal {
     BadMagic,
     SectionCut,
@@ -19,9 +19,10 @@ pub enum Refusal {
     ShortBuffer,
     ShortSlice,
     BadState,
+    MissingPair,
 }
 
-// Document 01's number of a cause.
+// The number of a cause.
 pub fn number(cause: Refusal) -> u32
     ensures { λ r. ⌜ r ≡ numberOf cause ⌝ }
 {
@@ -41,5 +42,6 @@ pub fn number(cause: Refusal) -> u32
         Refusal::ShortBuffer => 13,
         Refusal::ShortSlice => 14,
         Refusal::BadState => 15,
+        Refusal::MissingPair => 16,
     }
 }

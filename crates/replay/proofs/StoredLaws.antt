@@ -22,7 +22,7 @@ use Rattle.transcript.proofs.CallLaws.{taken-length}
 use Rattle.replay.specs.declared.Found.{Found}
 use Rattle.replay.specs.declared.Found.the-variants.{Call}
 use Rattle.call.specs.Numbers.{settingsOf}
-use Rattle.replay.specs.Stored.{lengthAt, limits, fitting, fits, buffersOf, textOf, kindUpTo, lineEnd, linesIn, Sound}
+use Rattle.replay.specs.Stored.{lengthAt, limits, fitting, fits, buffersOf, textOf, kindUpTo, lastKind, lineEnd, linesIn, Sound}
 
 -- ---- lengths and limits
 
@@ -121,5 +121,5 @@ module _ (text : List ℕ) where
 
 -- ---- what is found
 
-pub found-sound : {f : Found} {v kind periods : ℕ} {agrees : Bool} → f ≡ Call v kind periods agrees → Sound f → (v ≤ 32768) × ((kind ≤ 13) × (periods ≤ 41000))
+pub found-sound : {f : Found} {v kind periods : ℕ} {agrees : Bool} → f ≡ Call v kind periods agrees → Sound f → (v ≤ 32768) × ((kind ≤ lastKind) × (periods ≤ 41000))
 found-sound e s = subst Sound e s

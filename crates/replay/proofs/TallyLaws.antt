@@ -10,10 +10,11 @@ use lib.Seq.{getD-set-same, getD-set-other}
 use borrow.Author.Tests.{eqb-true, eqb-false}
 use Rattle.base.proofs.ListLaws.{replicated}
 use Rattle.replay.specs.declared.Tally.{Tally}
+use Rattle.replay.specs.Stored.{lastKind}
 use Rattle.replay.specs.Tallies.{none, wrongWith, firstWith, counted, Sound}
 
 pub none-sound : Sound none
-none-sound = record { wrong = omega arith; kinds = λ k. rw (replicated {A = ℕ} 14 k 0) (omega arith); whole = length-replicate {A = ℕ} 14 0; periods = omega arith }
+none-sound = record { wrong = omega arith; kinds = λ k. rw (replicated {A = ℕ} 23 k 0) (omega arith); whole = length-replicate {A = ℕ} 23 0; periods = omega arith }
 
 one-more : (xs : List ℕ) (i k n : ℕ) → i < length xs → ((j : ℕ) → getD xs j 0 ≤ n) → getD (set xs i (getD xs i 0 + 1)) k 0 ≤ n + 1
 one-more xs i k n h low = by (eqb k i) refl
@@ -29,7 +30,7 @@ wrong-more : (t : Tally) (agrees : Bool) → t .wrong ≤ t .calls → wrongWith
 wrong-more t true h = omega arith
 wrong-more t false h = omega arith
 
-pub counted-sound : (t : Tally) (kind periods : ℕ) (agrees : Bool) → Sound t → kind ≤ 13 → periods ≤ 65536 → Sound (counted t kind periods agrees)
+pub counted-sound : (t : Tally) (kind periods : ℕ) (agrees : Bool) → Sound t → kind ≤ lastKind → periods ≤ 65536 → Sound (counted t kind periods agrees)
 unfolding counted
 counted-sound t kind periods agrees s h l =
     let w = s .whole in

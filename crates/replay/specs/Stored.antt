@@ -61,9 +61,9 @@ unfoldable pub kindUpTo : List ℕ → ℕ → ℕ
 kindUpTo text zero = 0
 kindUpTo text (suc n) = pick (same (refused (suc n)) text) (suc n) (kindUpTo text n)
 
--- the last number of a refusal of a call; a text is of kind 0, spoken, or of a refusal's
+-- the last number of a refusal, by document 02; a text is of kind 0, spoken, or of a refusal's
 abbrev pub lastKind : ℕ
-lastKind = 13
+lastKind = 22
 
 abbrev pub kindOf : List ℕ → ℕ
 kindOf text = kindUpTo text lastKind

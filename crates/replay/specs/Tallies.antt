@@ -9,7 +9,7 @@ use Rattle.replay.specs.declared.Tally.{Tally}
 
 -- no call
 abbrev pub none : Tally
-none = record { calls = 0; wrong = 0; first = 0; kinds = replicate 14 0; periods = 0 }
+none = record { calls = 0; wrong = 0; first = 0; kinds = replicate 23 0; periods = 0 }
 
 -- `wrong` and `first`, the number of the first call that disagrees, with one more call
 abbrev pub wrongWith : Tally → Bool → ℕ
@@ -35,5 +35,5 @@ counted t kind periods agrees =
 pub record Sound (t : Tally) : Type 0 where
   pub wrong : t .wrong ≤ t .calls
   pub kinds : (k : ℕ) → getD (t .kinds) k 0 ≤ t .calls
-  pub whole : length (t .kinds) ≡ 14
+  pub whole : length (t .kinds) ≡ 23
   pub periods : t .periods ≤ 65536 * t .calls

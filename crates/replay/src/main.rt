@@ -14,8 +14,8 @@ use libc::STDOUT_FILENO;
 
 // ---- counting
 
-// The last number of a refusal of a call; the kinds of a stored text are 0, spoken, up to this.
-const LAST_KIND: usize = 13;
+// The last number of a refusal, by document 02; the kinds of a stored text are 0, spoken, up to this.
+const LAST_KIND: usize = 22;
 
 // How many calls there were, how many of them disagree, the number of the first of those, how many stored
 // texts there were of each kind (0 spoken, n refused n), and how many periods these have.
@@ -23,7 +23,7 @@ struct Tally {
     calls: usize,
     wrong: usize,
     first: usize,
-    kinds: [usize; 14],
+    kinds: [usize; 23],
     periods: usize,
 }
 
@@ -35,7 +35,7 @@ impl Tally {
             calls: 0,
             wrong: 0,
             first: 0,
-            kinds: [0; 14],
+            kinds: [0; 23],
             periods: 0,
         }
     }
@@ -341,8 +341,11 @@ fn replay(fd: i32) -> Tally
     t
 }
 
-// A line: how many stored texts are of a kind.
+// A line: how many stored texts are of a kind, if any is.
 fn print_kind(kind: usize, count: usize) {
+    if count == 0 {
+        return;
+    }
     if kind == 0 {
         io::write_all(STDOUT_FILENO, b"spoken");
     } else {
@@ -354,7 +357,7 @@ fn print_kind(kind: usize, count: usize) {
     io::write_all(STDOUT_FILENO, b"\n");
 }
 
-fn print_kinds(kinds: [usize; 14]) {
+fn print_kinds(kinds: [usize; 23]) {
     let mut k = 0;
     while k <= LAST_KIND {
         print_kind(k, kinds[k]);

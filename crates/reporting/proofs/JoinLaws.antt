@@ -11,14 +11,12 @@ use lib.Seq.{sets, take-nil, take-take, drop-at, length-take-le}
 use Rattle.base.specs.Buffers.{flat, over}
 use Rattle.base.specs.Bytes.{bytesOf, elements}
 use Rattle.base.proofs.CaseLaws.{by-order}
-use Rattle.base.proofs.ListLaws.{next-none}
 use Rattle.base.proofs.BoundLaws.{each-take}
 use Rattle.base.proofs.BufferLaws.{length-flat, length-over, over-nil, over-all, sets-over}
 use Rattle.base.proofs.ByteLaws.{length-bytesOf, elements-flat}
 use Rattle.voice.specs.Voice.{Voice, voiceOf}
-use Rattle.voice.specs.Opening.{openingRefusal}
 use Rattle.sheet.specs.declared.Target.{Target}
-use Rattle.sheet.specs.Sheet.{SegmentRead, sheetOf, sheetRefusal}
+use Rattle.sheet.specs.Sheet.{SegmentRead, sheetOf}
 use Rattle.units.specs.declared.Held.the-variants.{Nothing}
 use Rattle.units.specs.declared.Selection.{Selection}
 use Rattle.units.specs.declared.Unit.{Unit}
@@ -36,7 +34,8 @@ use Rattle.call.specs.declared.JoinType.the-variants.{None, Simple, ModifiedLpc
 use Rattle.call.specs.declared.Settings.{Settings}
 use Rattle.call.specs.declared.Need.{Need}
 use Rattle.call.specs.Call.{Plan, simplePlan, planBy, planOf, isSimple}
-use Rattle.call.specs.Buffers.{needOf, checkRefusal}
+use Rattle.call.specs.Buffers.{needOf}
+use Rattle.call.proofs.CheckLaws.{passed-all}
 use Rattle.call.proofs.FilledLaws.{by-low}
 use Rattle.checking.specs.declared.Fit.{Fit}
 use Rattle.checking.specs.Checks.{Passes}
@@ -241,8 +240,7 @@ module _ (file sheet : List ℕ) (o : Settings) (f : Fit) (p : Passes file sheet
       sym (ap (λ (ls : List Line). over (flat lineBytes ls) d) (no-lines (reportOf (voiceOf file) (sheetOf sheet) o) (sym counted ∙ z)) ∙ over-nil d)
 
   plan-passed : planOf (voiceOf file) (sheetOf sheet) o .refusal ≡ none
-  unfolding checkRefusal
-  plan-passed = next-none (sheetRefusal sheet) _ (next-none (openingRefusal file) _ (p .passed) .1) .1
+  plan-passed = passed-all file sheet o (p .passed) .plan
 
   module _ (some : 0 < count) where
     two-segments : 2 ≤ length (sheetOf sheet .segments)

@@ -17,7 +17,7 @@ use Rattle.refusal.specs.declared.Refusal.{Refusal}
 use Rattle.voice.specs.Voice.{Voice, voiceOf}
 use Rattle.voice.specs.Opening.{openingRefusal}
 use Rattle.sheet.specs.declared.Target.{Target}
-use Rattle.sheet.specs.Sheet.{Sheet, sheetOf, sheetRefusal}
+use Rattle.sheet.specs.Sheet.{Sheet, sheetOf}
 use Rattle.sheet.proofs.SheetLaws.{sheet-few}
 use Rattle.units.specs.declared.Unit.{Unit}
 use Rattle.units.specs.Selecting.{folded}
@@ -38,7 +38,7 @@ use Rattle.lpc.proofs.FilterLaws.{length-samples}
 use Rattle.call.specs.declared.JoinType.{JoinType}
 use Rattle.call.specs.declared.JoinType.the-variants.{None, Simple, ModifiedLpc}
 use Rattle.call.specs.declared.Settings.{Settings}
-use Rattle.call.specs.Call.{Plan, simplePlan, modifiedPlan, planBy, planOf, isSimple, periodsTaken, filterIn, periodsOf, samplesOfCall}
+use Rattle.call.specs.Call.{Plan, simplePlan, modifiedPlan, planBy, planOf, missingRefusal, readRefusal, isSimple, periodsTaken, filterIn, periodsOf, samplesOfCall}
 use Rattle.call.specs.Buffers.{checkRefusal}
 use Rattle.call.proofs.CallLaws.{twoSegments, periods-sized, partOf, soundOf, sound-is, taken-total}
 use Rattle.filling.proofs.JoinLaws.{open-rate, join-rises}
@@ -273,7 +273,7 @@ report-few v sheet o = each-few _ 4096 _ (sheet-few sheet) (report-pairs v (shee
 
 -- ---- the filter plays no part
 
-module _ (file sheet : List ℕ) (o o₁ : Settings) (join : o .join ≡ o₁ .join) (fold : o .fold ≡ o₁ .fold) where
+module _ (file sheet : List ℕ) (o o₁ : Settings) (join : o .join ≡ o₁ .join) (fold : o .fold ≡ o₁ .fold) (strict : o .strict ≡ o₁ .strict) where
   plan-any : (v : Voice) (s : Sheet) → planOf v s o ≡ planOf v s o₁
   unfolding planOf
   plan-any v s = rw (join, fold)
@@ -285,8 +285,8 @@ module _ (file sheet : List ℕ) (o o₁ : Settings) (join : o .join ≡ o₁ .j
       ∙ ap (λ (j : JoinType). linesOf (isSimple j) (planOf v s o₁ .units) (planOf v s o₁ .marks)) join
 
   check-any : checkRefusal file sheet o ≡ checkRefusal file sheet o₁
-  unfolding checkRefusal
-  check-any = ap (λ (p : Plan). orNext (openingRefusal file) (orNext (sheetRefusal sheet) (p .refusal))) (plan-any (voiceOf file) (sheetOf sheet))
+  unfolding checkRefusal readRefusal missingRefusal
+  check-any = let plan = plan-any (voiceOf file) (sheetOf sheet) in rw (plan, fold, strict)
 
   refusal-any : (n : ℕ) → refusalOfReport file sheet o n ≡ refusalOfReport file sheet o₁ n
   unfolding refusalOfReport

@@ -35,6 +35,7 @@ use Rattle.call.specs.Call.{periodsTaken, periodsOf}
 use Rattle.call.specs.Buffers.{Buffers, filled, needOf, holds, fits, checkRefusal, callRefusal, summaryOf, freshOf, answerBy, plannedOf, buffersAfter}
 use Rattle.planning.proofs.PlanLaws.{spoken-buffers}
 use Rattle.call.specs.SpokenCall.{SpokenCall, bytesAfter}
+use Rattle.call.proofs.CheckLaws.{passed-all}
 use Rattle.call.proofs.CallLaws.{periods-sized}
 use Rattle.call.proofs.LentLaws.{lentTaken, lent-filled}
 use Rattle.lines.specs.Lines.{refused}
@@ -56,8 +57,8 @@ module _ (file sheet : List ℕ) (settings : Settings) (b : Buffers) (bytes : By
   call = record { voiceFile = file; sheetFile = sheet; settings = settings; lent = b; bytes = bytes; notRefused = n }
 
   pub opening : openingRefusal file ≡ none
-  unfolding callRefusal checkRefusal
-  opening = next-none _ _ (next-none _ _ n .0) .0
+  unfolding callRefusal
+  opening = passed-all file sheet settings (next-none _ _ n .0) .opening
 
   rate-low : v .header .rate ≤ 48000
   unfolding goodHeader goodNumbers voiceOf voiceAt placesOf

@@ -16,7 +16,7 @@ use Rattle.lines.specs.Lines.{refused}
 
 -- 'with simple join, fixed filter, no fold'
 abbrev pub programSettings : Settings
-programSettings = record { join = Simple; filter = Named Fixed; fold = false }
+programSettings = record { join = Simple; filter = Named Fixed; fold = false; strict = false }
 
 -- 'It starts from an excitation buffer of 4,096 bytes, all 255; .. its others 1,024 each': elements of 8, 4, 4, 2, 1 and 1 bytes
 abbrev pub programBuffers : Buffers

@@ -39,7 +39,7 @@ use Rattle.sheet.specs.declared.Segment.{Segment}
 use Rattle.sheet.specs.Sheet.{SegmentRead}
 use Rattle.sheet.specs.Followers.{nameOf}
 use Rattle.units.specs.Asked.{Named}
-use Rattle.units.specs.Selecting.{foldName, foldedName, foldedSegment, folded, inCluster, pairName, plainName, clusterName, firstTried, orElse, plainEntry, entryOf}
+use Rattle.units.specs.Selecting.{foldName, foldedName, foldedSegment, folded, inCluster, pairName, plainName, firstTried, orElse, triedEntry, entryOf}
 
 -- ---- folding, and the cluster rule
 
@@ -144,32 +144,24 @@ module _ (v : Voice) where
   missing-entry none x e = refl
   missing-entry (some y) x e = absurd (let z : _≡_ {A = ℕ} 0 1 = cc in omega arith)
 
-  module _ (left right : List ℕ) where
-    pub plain-found : (q : EntryPeriods) → foundOf (named (pairName false left right)) ≡ Found q → periodsOf (plainEntry v left right) ≡ q
-    plain-found q e = found-entry (named (plainName left right)) (firstOf (sorted v)) q e
+  same-next : (a : Option Entry) → orNext a a ≡ a
+  same-next none = refl
+  same-next (some x) = refl
 
-    pub plain-missing : foundOf (named (pairName false left right)) ≡ Missing → plainEntry v left right ≡ firstOf (sorted v)
-    plain-missing e = missing-entry (named (plainName left right)) (firstOf (sorted v)) e
+  found-next : (a b : Option Entry) (q : EntryPeriods) → foundOf a ≡ Found q → Found q ≡ foundOf (orNext a b)
+  found-next none b q e = absurd (let z : _≡_ {A = ℕ} 0 1 = cc in omega arith)
+  found-next (some x) b q e = sym e
 
-  module _ (ss : List SegmentRead) (left right : SegmentRead) where
-    tried : (t : Bool) → inCluster ss left ≡ t → entryOf v ss left right ≡ orElse (named (pick t (clusterName (left .name) (right .name)) (plainName (left .name) (right .name)))) (plainEntry v (left .name) (right .name))
-    unfolding entryOf firstTried
-    tried t e =
-        rw e
-        (else-next (named (pick t (clusterName (left .name) (right .name)) (plainName (left .name) (right .name)))) (named (plainName (left .name) (right .name))) (firstOf (sorted v)))
+  missing-next : (a b : Option Entry) → foundOf a ≡ Missing → orNext a b ≡ b
+  missing-next none b e = refl
+  missing-next (some x) b e = absurd (let z : _≡_ {A = ℕ} 0 1 = cc in omega arith)
 
-    pub tried-plain : inCluster ss left ≡ false → entryOf v ss left right ≡ plainEntry v (left .name) (right .name)
-    tried-plain e = tried false e ∙ by (named (plainName (left .name) (right .name)))
-      where
-        by : (o : Option Entry) → orElse o (orElse o (firstOf (sorted v))) ≡ orElse o (firstOf (sorted v))
-        by none = refl
-        by (some x) = refl
-
-    pub tried-found : inCluster ss left ≡ true → (q : EntryPeriods) → foundOf (named (pairName true (left .name) (right .name))) ≡ Found q → periodsOf (entryOf v ss left right) ≡ q
-    tried-found e q f = ap (λ (x : Entry). periodsOf x) (tried true e) ∙ found-entry (named (clusterName (left .name) (right .name))) (plainEntry v (left .name) (right .name)) q f
-
-    pub tried-missing : inCluster ss left ≡ true → foundOf (named (pairName true (left .name) (right .name))) ≡ Missing → entryOf v ss left right ≡ plainEntry v (left .name) (right .name)
-    tried-missing e f = tried true e ∙ missing-entry (named (clusterName (left .name) (right .name))) (plainEntry v (left .name) (right .name)) f
+  -- the cluster's name where the rule says so, then the plain one
+  tried : (ss : List SegmentRead) (left right : SegmentRead) (t : Bool) → inCluster ss left ≡ t
+      → triedEntry v ss left right ≡ orNext (named (pairName t (left .name) (right .name))) (named (pairName false (left .name) (right .name)))
+  unfolding firstTried
+  tried ss left right true e = rw e refl
+  tried ss left right false e = rw e refl
 
 -- ---- an entry that is selected is one of the voice's
 
@@ -251,37 +243,44 @@ module _ (file : List ℕ) (bytes : Bytes file) where
 
 -- ---- the answers of a selection, by the bytes of the names
 
-module _ (file : List ℕ) (d : DiphoneVoice) (o : IsOpen file d) (fold : Bool) (ss : List SegmentRead) (l r : SegmentRead) (ls rs : List ℕ) (el : ls ≡ l .name) (er : rs ≡ r .name) (t : Bool) (i : t ≡ inCluster ss l) where
-  abbrev entry : Entry
-  entry = entryOf (voiceOf file) (folded fold ss) (foldedSegment fold l) (foldedSegment fold r)
-
+module _ (file : List ℕ) (d : DiphoneVoice) (o : IsOpen file d) (ss : List SegmentRead) (left right : SegmentRead) where
   abbrev Selected : EntryPeriods → Type 0
-  Selected e = (e ≡ periodsOf entry) × (e .start + e .first + e .second ≤ d .header .frames)
+  Selected e = (e ≡ periodsOf (entryOf (voiceOf file) ss left right)) × (e .start + e .first + e .second ≤ d .header .frames)
 
-  selected : (e : EntryPeriods) → periodsOf entry ≡ e → Selected e
-  selected e q = subst Selected q (refl, selected-within file d o (folded fold ss) (foldedSegment fold l) (foldedSegment fold r))
+  selected : (e : EntryPeriods) → periodsOf (entryOf (voiceOf file) ss left right) ≡ e → Selected e
+  selected e q = subst Selected q (refl, selected-within file d o ss left right)
 
-  ruled : (u : Bool) → t ≡ u → inCluster (folded fold ss) (foldedSegment fold l) ≡ u
-  ruled u e = cluster-folded fold ss l ∙ sym i ∙ e
+  pub selected-found : {e : EntryPeriods} → foundOf (triedEntry (voiceOf file) ss left right) ≡ Found e → Selected e
+  unfolding entryOf
+  selected-found {e} q = selected e (found-entry (voiceOf file) (triedEntry (voiceOf file) ss left right) _ e q)
 
-  -- what is known of the names' bytes, of the names
-  of-names : {A : Type 0} (f : List ℕ → List ℕ → A) → f (foldedName fold (l .name)) (foldedName fold (r .name)) ≡ f (foldedName fold ls) (foldedName fold rs)
-  of-names f = sym (ap (λ (n : List ℕ). f (foldedName fold n) (foldedName fold rs)) el ∙ ap (λ (n : List ℕ). f (foldedName fold (l .name)) (foldedName fold n)) er)
+  pub selected-first : foundOf (triedEntry (voiceOf file) ss left right) ≡ Missing → {e : EntryPeriods} → e ≡ periodsOf (firstOf (sorted (voiceOf file))) → Selected e
+  unfolding entryOf
+  selected-first m {e} q = selected e (ap (λ (x : Entry). periodsOf x) (missing-entry (voiceOf file) (triedEntry (voiceOf file) ss left right) _ m) ∙ sym q)
 
-  abbrev cluster-found : FoundEntry
-  cluster-found = foundOf (lookup (pairName true (foldedName fold ls) (foldedName fold rs)) (voiceOf file .entries))
+module _ (file : List ℕ) (fold : Bool) (ss : List SegmentRead) (l r : SegmentRead) (ls rs : List ℕ) (el : ls ≡ l .name) (er : rs ≡ r .name) (t : Bool) (i : t ≡ inCluster ss l) where
+  -- by names as they stand in the sheet
+  abbrev byNames : List ℕ → List ℕ → Bool → Option Entry
+  byNames a b cluster = lookup (pairName cluster (foldedName fold a) (foldedName fold b)) (voiceOf file .entries)
 
-  by-name : cluster-found ≡ foundOf (lookup (pairName true (foldedName fold (l .name)) (foldedName fold (r .name))) (voiceOf file .entries))
-  by-name = sym (of-names (λ a b. foundOf (lookup (pairName true a b) (voiceOf file .entries))))
+  abbrev byName : Bool → Option Entry
+  byName = byNames ls rs
 
-  plain-by : (e : EntryPeriods) → entry ≡ plainEntry (voiceOf file) (foldedName fold (l .name)) (foldedName fold (r .name)) → e ≡ periodsOf (plainEntry (voiceOf file) (foldedName fold ls) (foldedName fold rs)) → Selected e
-  plain-by e p q = selected e (ap (λ (x : Entry). periodsOf x) p ∙ of-names (λ a b. periodsOf (plainEntry (voiceOf file) a b)) ∙ sym q)
+  abbrev tried-here : Option Entry
+  tried-here = triedEntry (voiceOf file) (folded fold ss) (foldedSegment fold l) (foldedSegment fold r)
 
-  pub selected-plain : t ≡ false → {e : EntryPeriods} → e ≡ periodsOf (plainEntry (voiceOf file) (foldedName fold ls) (foldedName fold rs)) → Selected e
-  selected-plain f {e} q = plain-by e (tried-plain (voiceOf file) (folded fold ss) (foldedSegment fold l) (foldedSegment fold r) (ruled false f)) q
+  tried-is : (u : Bool) → t ≡ u → orNext (byName u) (byName false) ≡ tried-here
+  tried-is u e =
+      ap (λ (n : List ℕ). orNext (byNames n rs u) (byNames n rs false)) el
+      ∙ ap (λ (n : List ℕ). orNext (byNames (l .name) n u) (byNames (l .name) n false)) er
+      ∙ sym (tried (voiceOf file) (folded fold ss) (foldedSegment fold l) (foldedSegment fold r) u (cluster-folded fold ss l ∙ sym i ∙ e))
 
-  pub selected-found : t ≡ true → {e : EntryPeriods} → cluster-found ≡ Found e → Selected e
-  selected-found f {e} q = selected e (tried-found (voiceOf file) (folded fold ss) (foldedSegment fold l) (foldedSegment fold r) (ruled true f) e (sym by-name ∙ q))
+  pub tried-plain : t ≡ false → {f : FoundEntry} → f ≡ foundOf (byName false) → f ≡ foundOf tried-here
+  tried-plain e q = q ∙ ap foundOf (sym (same-next (voiceOf file) (byName false)) ∙ tried-is false e)
 
-  pub selected-missing : t ≡ true → cluster-found ≡ Missing → {e : EntryPeriods} → e ≡ periodsOf (plainEntry (voiceOf file) (foldedName fold ls) (foldedName fold rs)) → Selected e
-  selected-missing f m {e} q = plain-by e (tried-missing (voiceOf file) (folded fold ss) (foldedSegment fold l) (foldedSegment fold r) (ruled true f) (sym by-name ∙ m)) q
+  module _ (e : t ≡ true) where
+    pub tried-found : {q : EntryPeriods} → foundOf (byName true) ≡ Found q → Found q ≡ foundOf tried-here
+    tried-found {q} f = found-next (voiceOf file) (byName true) (byName false) q f ∙ ap foundOf (tried-is true e)
+
+    pub tried-missing : foundOf (byName true) ≡ Missing → {f : FoundEntry} → f ≡ foundOf (byName false) → f ≡ foundOf tried-here
+    tried-missing m q = q ∙ ap foundOf (sym (missing-next (voiceOf file) (byName true) (byName false) m) ∙ tried-is true e)

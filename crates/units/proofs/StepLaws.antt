@@ -32,7 +32,7 @@ use Rattle.units.specs.Walking.{listIn, segmentsAt, coming, Walking, uni
 use Rattle.units.proofs.SelectLaws.{ShortHalves, selected-short}
 
 -- the segments are folded one by one
-folded-cons : (fold : Bool) (s : SegmentRead) (ss : List SegmentRead) → folded fold (s ∷ ss) ≡ foldedSegment fold s ∷ folded fold ss
+pub folded-cons : (fold : Bool) (s : SegmentRead) (ss : List SegmentRead) → folded fold (s ∷ ss) ≡ foldedSegment fold s ∷ folded fold ss
 unfolding folded
 folded-cons true s ss = refl
 folded-cons false s ss = refl

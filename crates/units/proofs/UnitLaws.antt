@@ -19,7 +19,7 @@ use Rattle.sheet.specs.Followers.{nameOf}
 use Rattle.sheet.proofs.SheetLaws as sheets
 use Rattle.sheet.proofs.SheetLaws.{Refers}
 use Rattle.units.specs.declared.Unit.{Unit}
-use Rattle.units.specs.Selecting.{foldSegment, folded, inCluster, firstTried, entryOf, foundFrom, foundAll, firstTriedFound}
+use Rattle.units.specs.Selecting.{foldSegment, folded, inCluster, firstTried, entryOf, firstEntry, foundFrom, foundAll, firstTriedFound}
 use Rattle.units.specs.Units.{unitsOfPair, unitsFrom, unitsAll, unitsOf}
 
 -- units whose periods are below n
@@ -63,22 +63,22 @@ module _ (v w : Voice) (x : Extends w v) (inside : withinFrames (v .header .fram
       let q : lookup (firstTried ss left right) (w .entries) ≡ some e = ap (λ (m : List ℕ). lookup m (w .entries)) (sym (f .named)) ∙ stands-found (w .entries) unique e (x .entries e (f .stands)) in
       record { one = e; fromV = rw p; fromW = rw q; inside = stands-within (v .header .frames) (v .entries) inside e (f .stands) }
 
-  same-entry : (ss : List SegmentRead) (left right : SegmentRead) → isSome (lookup (firstTried ss left right) (v .entries)) ≡ true → SameEntry v w (v .header .frames) ss left right
-  same-entry ss left right h = let a = is-some (lookup (firstTried ss left right) (v .entries)) h in entry-found ss left right (a .entry) (a .is)
+  same-entry : (ss : List SegmentRead) (left right : SegmentRead) → isSome (firstEntry v ss left right) ≡ true → SameEntry v w (v .header .frames) ss left right
+  same-entry ss left right h = let a = is-some (firstEntry v ss left right) h in entry-found ss left right (a .entry) (a .is)
 
   -- the units are the same, and their periods are the first voice's
   record Same (us ws : List Unit) : Type 0 where
     same : ws ≡ us
     within : Within (v .header .frames) us
 
-  from-same : (ss : List SegmentRead) (pair : ℕ) (left : SegmentRead) (rs : List SegmentRead) → foundFrom v ss left rs ≡ true
+  from-same : (ss : List SegmentRead) (pair : ℕ) (left : SegmentRead) (rs : List SegmentRead) → foundFrom (firstEntry v ss) left rs ≡ true
       → Same (unitsFrom v ss pair left rs) (unitsFrom w ss pair left rs)
   unfolding unitsFrom foundFrom
   from-same ss pair left [] h = record { same = refl; within = nil }
   from-same ss pair left (right ∷ rs) h =
-      let found = isSome (lookup (firstTried ss left right) (v .entries)) in
-      let a = same-entry ss left right (and-left found (foundFrom v ss right rs) h) in
-      let b = from-same ss (suc pair) right rs (and-right found (foundFrom v ss right rs) h) in
+      let found = isSome (firstEntry v ss left right) in
+      let a = same-entry ss left right (and-left found (foundFrom (firstEntry v ss) right rs) h) in
+      let b = from-same ss (suc pair) right rs (and-right found (foundFrom (firstEntry v ss) right rs) h) in
       record {
         same = pair-same pair (w .header .rate) (v .header .rate) (entryOf w ss left right) (entryOf v ss left right) (asF32 (left .end)) (asF32 (right .end)) _ _ (x .rate)
             (a .fromW ∙ sym (a .fromV)) (b .same);
@@ -86,7 +86,7 @@ module _ (v w : Voice) (x : Extends w v) (inside : withinFrames (v .header .fram
             (subst (λ (e : Entry). endPeriod e ≤ v .header .frames) (sym (a .fromV)) (a .inside)) (b .within);
       }
 
-  all-same : (ss rs : List SegmentRead) → foundAll v ss rs ≡ true → Same (unitsAll v ss rs) (unitsAll w ss rs)
+  all-same : (ss rs : List SegmentRead) → foundAll (firstEntry v ss) rs ≡ true → Same (unitsAll v ss rs) (unitsAll w ss rs)
   unfolding unitsAll foundAll
   all-same ss [] h = record { same = refl; within = nil }
   all-same ss (s ∷ rs) h = from-same ss 1 s rs h

@@ -62,29 +62,28 @@ abbrev pub orElse : Option Entry → Entry → Entry
 orElse none d = d
 orElse (some e) d = e
 
+-- the entry of its first-tried name
+abbrev pub firstEntry : Voice → List SegmentRead → SegmentRead → SegmentRead → Option Entry
+firstEntry v ss left right = lookup (firstTried ss left right) (v .entries)
+
 -- the entry found by a name that the pair tries: 'try `left_-_right`; then `left-right`'
 abbrev pub triedEntry : Voice → List SegmentRead → SegmentRead → SegmentRead → Option Entry
-triedEntry v ss left right =
-    orNext (lookup (firstTried ss left right) (v .entries)) (lookup (plainName (left .name) (right .name)) (v .entries))
+triedEntry v ss left right = orNext (firstEntry v ss left right) (lookup (plainName (left .name) (right .name)) (v .entries))
 
 -- 'then the sorted first entry'
 unfoldable pub entryOf : Voice → List SegmentRead → SegmentRead → SegmentRead → Entry
 entryOf v ss left right = orElse (triedEntry v ss left right) (firstOf (sorted v))
 
--- Inner: by the plain name alone
-abbrev pub plainEntry : Voice → List ℕ → List ℕ → Entry
-plainEntry v left right = orElse (lookup (plainName left right) (v .entries)) (firstOf (sorted v))
+-- ---- each pair finds an entry, by such a look-up
 
--- ---- each pair finds its first-tried name
+unfoldable pub foundFrom : (SegmentRead → SegmentRead → Option Entry) → SegmentRead → List SegmentRead → Bool
+foundFrom find left [] = true
+foundFrom find left (right ∷ rs) = isSome (find left right) && foundFrom find right rs
 
-unfoldable pub foundFrom : Voice → List SegmentRead → SegmentRead → List SegmentRead → Bool
-foundFrom v ss left [] = true
-foundFrom v ss left (right ∷ rs) = isSome (lookup (firstTried ss left right) (v .entries)) && foundFrom v ss right rs
-
-unfoldable pub foundAll : Voice → List SegmentRead → List SegmentRead → Bool
-foundAll v ss [] = true
-foundAll v ss (s ∷ rs) = foundFrom v ss s rs
+unfoldable pub foundAll : (SegmentRead → SegmentRead → Option Entry) → List SegmentRead → Bool
+foundAll find [] = true
+foundAll find (s ∷ rs) = foundFrom find s rs
 
 -- 'each pair of the first sheet finds its first-tried name in the first voice'
 unfoldable pub firstTriedFound : Voice → Bool → List SegmentRead → Bool
-firstTriedFound v fold ss = foundAll v (folded fold ss) (folded fold ss)
+firstTriedFound v fold ss = foundAll (firstEntry v (folded fold ss)) (folded fold ss)

@@ -119,25 +119,44 @@ fn find_pair(
     find_name(file, index, by, &name[..len])
 }
 
-// The entry of a pair that is no cluster, or whose cluster the voice has not.
-fn select_plain(file: &[u8], index: &[u8], by: Selection, left: &[u8], right: &[u8]) -> EntryPeriods
+// What the voice has under a name that a pair of segments tries. `number` is the right one's.
+pub fn find_tried(
+    file: &[u8],
+    index: &[u8],
+    sheet: &[u8],
+    by: Selection,
+    sampled: &[usize; 256],
+    left: Segment,
+    right: Segment,
+    number: usize,
+) -> FoundEntry
     requires { ⌜
-        Searchable (now file) (now index) by × ((length (now left) ≤ 32) × (length (now right) ≤ 32))
+        Searchable (now file) (now index) by ×
+        ((answerIn (sheetPlaces (now sheet)) ≡ SheetAnswer.Read (by .places)) ×
+        (Sampled (now sheet) (by .places .segments .count) (now sampled) ×
+        (Named (now sheet) left × (Named (now sheet) right × Numbered (now sheet) right number))))
         ⌝ }
     ensures { λ r.
         ⌜
-        r ≡ periodsOf
-        (selecting.plainEntry (voices.voiceOf (now (file .entry))) (foldedName (by .fold) (now (left .entry)))
-        (foldedName (by .fold) (now (right .entry))))
+        r ≡ foundOf
+        (selecting.triedEntry (voices.voiceOf (now (file .entry)))
+        (selecting.folded (by .fold) (sheetOf (now (sheet .entry)) .segments))
+        (selecting.foldedSegment (by .fold) (segmentRead (now (sheet .entry)) left))
+        (selecting.foldedSegment (by .fold) (segmentRead (now (sheet .entry)) right)))
         ⌝ }
 {
-    match find_pair(file, index, by, left, right, false) {
-        FoundEntry::Found(e) => e,
-        FoundEntry::Missing => first_entry(file, index, by),
+    let left_name = voice::sections::bytes_at(sheet, left.name);
+    let right_name = voice::sections::bytes_at(sheet, right.name);
+    if !in_cluster(sheet, by.places, sampled, left, right, number) {
+        return find_pair(file, index, by, left_name, right_name, false);
+    }
+    match find_pair(file, index, by, left_name, right_name, true) {
+        FoundEntry::Found(e) => FoundEntry::Found(e),
+        FoundEntry::Missing => find_pair(file, index, by, left_name, right_name, false),
     }
 }
 
-// The entry of a pair of segments. `number` is the right one's.
+// The entry of a pair of segments: one that it finds, else the sorted first.
 pub fn select(
     file: &[u8],
     index: &[u8],
@@ -164,13 +183,8 @@ pub fn select(
         (r .start + r .first + r .second ≤ by .voice .header .frames)
         ⌝ }
 {
-    let left_name = voice::sections::bytes_at(sheet, left.name);
-    let right_name = voice::sections::bytes_at(sheet, right.name);
-    if !in_cluster(sheet, by.places, sampled, left, right, number) {
-        return select_plain(file, index, by, left_name, right_name);
-    }
-    match find_pair(file, index, by, left_name, right_name, true) {
+    match find_tried(file, index, sheet, by, sampled, left, right, number) {
         FoundEntry::Found(e) => e,
-        FoundEntry::Missing => select_plain(file, index, by, left_name, right_name),
+        FoundEntry::Missing => first_entry(file, index, by),
     }
 }

@@ -25,11 +25,11 @@ use Rattle.unnamed.proofs.SameLaws.{planned-same, buffers-same, plan-re
 
 -- ---- what a made call answered and left is a definition's
 
-need-in-c : (file sheet : List ℕ) (o : Settings) (old : List ℕ) (r : ℕ) (left : List ℕ) → NeedMadeInC file sheet o old r left
+pub need-in-c : (file sheet : List ℕ) (o : Settings) (old : List ℕ) (r : ℕ) (left : List ℕ) → NeedMadeInC file sheet o old r left
     → (r ≡ answerOf (refusalOfNeed file sheet o (length old))) × (left ≡ needLeft file sheet o old)
 need-in-c _ _ _ _ _ _ (made κs voice sheet settings need r left post) = (post .0, post .1)
 
-report-in-c : (file sheet : List ℕ) (o : Settings) (old : List ℕ) (r : ℕ) (left : List ℕ) → ReportMadeInC file sheet o old r left
+pub report-in-c : (file sheet : List ℕ) (o : Settings) (old : List ℕ) (r : ℕ) (left : List ℕ) → ReportMadeInC file sheet o old r left
     → (r ≡ answerOf (refusalOfReport file sheet o (length old))) × (left ≡ linesLeft file sheet o old)
 report-in-c _ _ _ _ _ _ (made κs voice sheet settings lines r left post) = (post .0, post .1)
 
@@ -100,7 +100,7 @@ module _ (p o : Settings) (same : SameSettings p o) where
 
   report-alike : (file sheet old : List ℕ) → AnswersAlike (λ x. ReportMadeInC file sheet x old) p o
   report-alike file sheet old =
-      let any = any-filter file sheet p o (same .join) (same .fold) in
+      let any = any-filter file sheet p o (same .join) (same .fold) (same .strict) in
       answers-by _ _ _ (λ x. report-in-c file sheet x old) p o (ap answerOf (any .refusal (length old))) (any .left old)
 
   pub alike : Alike p o

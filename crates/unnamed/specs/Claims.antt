@@ -1,6 +1,5 @@
 -- Document 02, A5: a call that names no filter 'answers in everything as the one that names float'.
 use mathlib.Core.Path.{_≡_}
-use mathlib.Core.Bool.{Bool}
 use mathlib.Core.List.{List}
 use Prim.Native.Nat.{ℕ, _/_, _%_, _≤_}
 use lib.Dec.{eqb}
@@ -10,7 +9,6 @@ use Rattle.refusal.specs.Number.{answerOf}
 use Rattle.lpc.specs.declared.FilterState.{FilterState}
 use Rattle.lpc.specs.declared.ResynthType.{ResynthType}
 use Rattle.lpc.specs.declared.ResynthType.the-variants.{Fixed, Float}
-use Rattle.call.specs.declared.JoinType.{JoinType}
 use Rattle.call.specs.declared.FilterSetting.{FilterSetting}
 use Rattle.call.specs.declared.FilterSetting.the-variants.{Unnamed, Named}
 use Rattle.call.specs.declared.Settings.{Settings}
@@ -46,15 +44,16 @@ pub record Alike (p o : Settings) : Type 0 where
   pub needInC : (file sheet old : List ℕ) → AnswersAlike (λ x. NeedMadeInC file sheet x old) p o
   pub reportInC : (file sheet old : List ℕ) → AnswersAlike (λ x. ReportMadeInC file sheet x old) p o
 
-abbrev pub chosen : JoinType → FilterSetting → Bool → Settings
-chosen j f b = record { join = j; filter = f; fold = b }
+-- settings with another filter
+abbrev pub chosen : Settings → FilterSetting → Settings
+chosen o f = record { join = o .join; filter = f; fold = o .fold; strict = o .strict }
 
--- how a settings word was read before: each number of bits 2 and 3 named a filter, 1 fixed and the others float
+-- how the filter of a settings word was read before A5: each number of bits 2 and 3 named one, 1 fixed and the others float
 abbrev pub oldFilterOf : ℕ → ResynthType
 oldFilterOf n = pick (eqb n 1) Fixed Float
 
 abbrev pub oldSettingsOf : ℕ → Settings
-oldSettingsOf word = chosen (settingsOf word .join) (Named (oldFilterOf (word / 4 % 4))) (settingsOf word .fold)
+oldSettingsOf word = chosen (settingsOf word) (Named (oldFilterOf (word / 4 % 4)))
 
 -- The claim speaks of something: every call can be made, and every pull.
 pub record CanBeMade : Type 0 where
@@ -73,13 +72,14 @@ pub record CanBeMade : Type 0 where
 
 pub record AsFloat : Type 0 where
   -- 'such a call answers in everything as the one that names float'
-  pub unnamed : (j : JoinType) (b : Bool) → Alike (chosen j Unnamed b) (chosen j (Named Float) b)
-  -- in C: two words of one join and one fold, of which one names no filter and the other float
-  pub words : (word word₁ : ℕ) → word % 4 ≡ word₁ % 4 → word / 16 % 2 ≡ word₁ / 16 % 2 → word / 4 % 4 ≡ 0 → 2 ≤ word₁ / 4 % 4
+  pub unnamed : (o : Settings) → Alike (chosen o Unnamed) (chosen o (Named Float))
+  -- in C: two words that differ in their filters alone, of which one names none and the other float
+  pub words : (word word₁ : ℕ) → word % 4 ≡ word₁ % 4 → word / 16 % 2 ≡ word₁ / 16 % 2 → word / 32 % 2 ≡ word₁ / 32 % 2
+      → word / 4 % 4 ≡ 0 → 2 ≤ word₁ / 4 % 4
       → Alike (settingsOf word) (settingsOf word₁)
-  -- each word answers as the one that names the filter which it was read as before: no call of C changes its answer
+  -- each word answers as the one that names the filter which it was read as before: A5 changed no answer of C
   pub kept : (word : ℕ) → Alike (settingsOf word) (oldSettingsOf word)
   -- for demand 3's law on longer sheets they are the same settings, and those that name fixed are others
-  pub same : (j : JoinType) (b : Bool) → SameSettings (chosen j Unnamed b) (chosen j (Named Float) b)
-  pub other : (j : JoinType) (b : Bool) → SameSettings (chosen j Unnamed b) (chosen j (Named Fixed) b) → ⊥
+  pub same : (o : Settings) → SameSettings (chosen o Unnamed) (chosen o (Named Float))
+  pub other : (o : Settings) → SameSettings (chosen o Unnamed) (chosen o (Named Fixed)) → ⊥
   pub made : CanBeMade

@@ -29,8 +29,9 @@ use Rattle.phoneset.specs.Phones.{vowels, consonants, vc, isVowel}
 use Rattle.sheet.specs.Sheet.{_andThen_, groups, count, printable, name, isFinite, finite, valueOf, value, asF32}
 use Rattle.sheet.specs.Sheet.{segment, target, repeated, sheetFrom, sheetRefusal, sheetOf}
 use Rattle.sheet.specs.Followers.{nameOf}
-use Rattle.units.specs.Selecting.{foldName, folded, inCluster, firstTried, entryOf}
+use Rattle.units.specs.Selecting.{foldName, folded, inCluster, firstTried, entryOf, foundFrom, foundAll}
 use Rattle.units.specs.Units.{samplesAt, midway, unitsOfPair, unitsFrom, unitsAll, endRefusal}
+use Rattle.pairs.specs.Pairs.{triedFound}
 use Rattle.marks.specs.PitchMarks.{f0At, goesOn, nextTime, markAt, climb, slopeOf, climbTo, marksFrom, pitchMarks}
 use Rattle.marks.specs.NaturalMarks.{marksOfPeriods, naturalMarks, naturalUnits, markRefusal}
 use Rattle.marks.specs.Checking.{lastOf, upTo}
@@ -46,14 +47,14 @@ use Rattle.lpc.specs.State.{freshState, advanced, spoken, periodsBy}
 use Rattle.call.specs.declared.Settings.{Settings}
 use Rattle.call.specs.declared.Called.{Called}
 use Rattle.call.specs.declared.Called.the-variants.{Spoken, Refused}
-use Rattle.call.specs.Call.{simplePlan, modifiedPlan, planBy, planOf, periodsTaken, periodsOf}
+use Rattle.call.specs.Call.{simplePlan, modifiedPlan, planBy, planOf, missingRefusal, readRefusal, periodsTaken, periodsOf}
 use Rattle.call.specs.Buffers.{Buffers, filled, needOf, holds, fits, checkRefusal, callRefusal, summaryOf}
 use Rattle.call.specs.Buffers.{freshOf, zeroState, plannedOf, buffersAfter, calledNumber}
 use Rattle.call.specs.Pull.{Lent, possible, nextPart, pullOf, pullNumber}
 use Rattle.call.specs.Machine.{Shown, pulls}
 
 pub record Result : Type 0 where
-  -- document 01's number, 0 where the call is spoken
+  -- the refusal's number, 0 where the call is spoken
   pub answer : ℕ
   -- rate, periods, samples, marks, order, entries; nothing where the call is refused, as in the last two fields
   pub summary : List ℕ
@@ -83,14 +84,14 @@ unfolding ofBits add sub mul div lt le ne ofInt toUnsigned toSigned every firstF
     entryAt wholeEntry entriesFrom voiceAt placesOf voiceOf lookup insert sort sorted sortedIndex offset residualOf samplesOf
     samplesFrom rowOf longest hasNeeded risingIn goodTables withinFrames distinct goodIndex openingRefusal indexFits vowels
     consonants vc isVowel _andThen_ groups count printable name isFinite finite valueOf value asF32 segment target repeated
-    sheetFrom sheetRefusal sheetOf foldName folded nameOf inCluster firstTried entryOf samplesAt midway unitsOfPair unitsFrom
-    unitsAll endRefusal f0At goesOn nextTime markAt climb slopeOf climbTo marksFrom pitchMarks marksOfPeriods naturalMarks
+    sheetFrom sheetRefusal sheetOf foldName folded nameOf inCluster firstTried entryOf foundFrom foundAll triedFound samplesAt midway
+    unitsOfPair unitsFrom unitsAll endRefusal f0At goesOn nextTime markAt climb slopeOf climbTo marksFrom pitchMarks marksOfPeriods naturalMarks
     naturalUnits markRefusal decodedBy sourceBy sourceOf centred nearestFrom nearestPeriod paceOf placeAfterSize periodOf lastOf
     upTo upToEnd ownPeriods shareCount sharesFrom shares periodsOfMarks periodsOfShare
     taken cut outputs samples periodsFrom scaledBy rowValue fixedSum divided fixedNext fixedFilter floatValue floatSum
     floatNext floatFilter tap ringAfter ringSamples freshState advanced spoken periodsBy simplePlan modifiedPlan planBy planOf
-    periodsTaken sizesOf rowsOf excitationOf periodsOf decodedOver filled decodeRoom needOf holds fits checkRefusal callRefusal
-    summaryOf freshOf zeroState plannedOf buffersAfter possible nextPart pullOf pulls
+    missingRefusal readRefusal periodsTaken sizesOf rowsOf excitationOf periodsOf decodedOver filled decodeRoom needOf holds fits
+    checkRefusal callRefusal summaryOf freshOf zeroState plannedOf buffersAfter possible nextPart pullOf pulls
 tried file sheet o b ds =
     let v = voiceOf file in
     let s = sheetOf sheet in

@@ -45,9 +45,17 @@ pub fn run(args: &Args) -> bool {
 
 fn bench(name: &str, files: Files, rounds: usize, only: Option<&str>) {
     let voice: &'static [u8] = Box::leak(files.voice.into_boxed_slice());
-    let sheets: Vec<Sheet> = files.sheets.iter().map(|(name, bytes)| read(name, bytes)).collect();
-    println!("oracle bench: {name}, {} sheets, {rounds} rounds", sheets.len());
+    let sheets: Vec<Sheet> = files
+        .sheets
+        .iter()
+        .map(|(name, bytes)| read(name, bytes))
+        .collect();
+    println!(
+        "oracle bench: {name}, {} sheets, {rounds} rounds",
+        sheets.len()
+    );
     println!("  ns a sample, best and median of the rounds: here, the Rust, ratio; open in µs");
+    println!("  strict: a strict call, the same one not strict, ratio");
     for settings in settings(only) {
         let label = label(settings);
         let mut calls: Vec<Timed> = sheets
@@ -58,7 +66,8 @@ fn bench(name: &str, files: Files, rounds: usize, only: Option<&str>) {
             calls.iter_mut().for_each(Timed::round);
         }
         let samples: usize = calls.iter().map(|call| call.samples).sum();
-        println!("  {label}: {samples} samples");
+        let lacking = calls.iter().filter(|call| call.lacking).count();
+        println!("  {label}: {samples} samples; {lacking} sheets refused if strict");
         show(&calls, rounds, samples);
     }
     if only.is_some() {
@@ -66,7 +75,10 @@ fn bench(name: &str, files: Files, rounds: usize, only: Option<&str>) {
     }
     let longest = sheets.iter().max_by_key(|sheet| sheet.segments.len());
     for settings in fixed() {
-        println!("  {}, a sheet repeated; µs a call, best: here, the Rust", label(settings));
+        println!(
+            "  {}, a sheet repeated; µs a call, best: here, the Rust",
+            label(settings)
+        );
         grown(voice, longest.expect("a sheet"), settings, rounds);
     }
 }
@@ -79,7 +91,10 @@ fn settings(only: Option<&str>) -> Vec<Settings> {
     let mut all = Vec::new();
     for join in [Join::Simple, Join::Modified] {
         for filter in FILTERS.map(Some) {
-            all.push(Settings { join, filter, fold: false });
+            all.push(Settings {
+                filter,
+                ..Settings::new(join)
+            });
         }
     }
     all.retain(|settings| only.is_none_or(|only| only == label(*settings)));
@@ -98,11 +113,17 @@ fn label(settings: Settings) -> String {
 
 /// A line for each pair of parts that do the same.
 fn show(calls: &[Timed], rounds: usize, samples: usize) {
-    let pairs: [(&str, &[Part], &[Part]); 4] = [
-        ("plan, pulls", &[Part::Plan, Part::Pulls], &[Part::RustWhole]),
+    let pairs: [(&str, &[Part], &[Part]); 6] = [
+        (
+            "plan, pulls",
+            &[Part::Plan, Part::Pulls],
+            &[Part::RustWhole],
+        ),
         ("plan", &[Part::Plan], &[Part::RustParse, Part::RustPrepare]),
         ("pulls", &[Part::Pulls], &[Part::RustFilter]),
         ("need", &[Part::Need], &[]),
+        ("strict plan", &[Part::StrictPlan], &[Part::Plan]),
+        ("strict need", &[Part::StrictNeed], &[Part::Need]),
     ];
     let costs: Vec<&Costs> = calls.iter().map(|call| &call.costs).collect();
     let each = |parts: &[Part], place: usize| -> f64 {
@@ -138,8 +159,8 @@ fn grown(voice: &'static [u8], sheet: &Sheet, settings: Settings, rounds: usize)
         calls.iter_mut().for_each(Timed::round);
     }
     for (sheet, call) in sheets.iter().zip(&calls) {
-        let [need, plan, pulls, whole] =
-            [Part::Need, Part::Plan, Part::Pulls, Part::RustWhole].map(|part| call.costs.at(&[part], 0) * 1e6);
+        let [need, plan, pulls, whole] = [Part::Need, Part::Plan, Part::Pulls, Part::RustWhole]
+            .map(|part| call.costs.at(&[part], 0) * 1e6);
         println!(
             "    {:4} segments, {:7} samples: need {need:8.1}, plan {plan:8.1}, pulls {pulls:8.1}; {whole:8.1}",
             sheet.segments.len(),
@@ -179,5 +200,7 @@ fn widened(voices: Vec<(usize, Files)>, settings: Settings, rounds: usize) {
 fn timed(files: Files, settings: Settings) -> Vec<Timed> {
     let voice: &'static [u8] = Box::leak(files.voice.into_boxed_slice());
     let sheets = files.sheets.iter().map(|(name, bytes)| read(name, bytes));
-    sheets.map(|sheet| Timed::new(voice, &sheet, settings)).collect()
+    sheets
+        .map(|sheet| Timed::new(voice, &sheet, settings))
+        .collect()
 }

@@ -82,7 +82,13 @@ pub fn wider(seed: u64) -> Vec<(usize, Files)> {
         .collect();
     let files = |times| {
         let voice = voices::file(&widened(&voice, times).sections());
-        (times, Files { voice, sheets: sheets.clone() })
+        (
+            times,
+            Files {
+                voice,
+                sheets: sheets.clone(),
+            },
+        )
     };
     WIDER.map(files).into()
 }
@@ -94,11 +100,16 @@ fn widened(voice: &VoiceSpec, times: usize) -> VoiceSpec {
         let before = wide.residual.len() as u32;
         wide.rows.extend(&voice.rows);
         wide.residual.extend(&voice.residual);
-        wide.offsets.extend(voice.offsets[1..].iter().map(|offset| before + offset));
-        let more = voice.entries.iter().enumerate().map(|(i, entry)| EntrySpec {
-            name: format!("~{turn}-{i:04}").into_bytes(),
-            ..entry.clone()
-        });
+        wide.offsets
+            .extend(voice.offsets[1..].iter().map(|offset| before + offset));
+        let more = voice
+            .entries
+            .iter()
+            .enumerate()
+            .map(|(i, entry)| EntrySpec {
+                name: format!("~{turn}-{i:04}").into_bytes(),
+                ..entry.clone()
+            });
         wide.entries.extend(more);
     }
     wide
@@ -134,7 +145,11 @@ fn sheet(rng: &mut Rng) -> Sheet {
         .map(|i| Segment {
             name: rng.pick(&names).to_string(),
             end: Value::float((i + 1) as f32 * SEGMENT),
-            follower: if i % 3 == 2 || i + 1 == SEGMENTS { 0 } else { i + 2 },
+            follower: if i % 3 == 2 || i + 1 == SEGMENTS {
+                0
+            } else {
+                i + 2
+            },
         })
         .collect();
     let targets = (0..)
@@ -150,7 +165,10 @@ fn sheet(rng: &mut Rng) -> Sheet {
 
 /// A sheet several times over, each after the one before.
 pub fn repeated(sheet: &Sheet, times: usize) -> Sheet {
-    let length = sheet.segments.last().map_or(0.0, |segment| segment.end.as_f32());
+    let length = sheet
+        .segments
+        .last()
+        .map_or(0.0, |segment| segment.end.as_f32());
     let mut long = Sheet::default();
     for turn in 0..times {
         let later = |value: Value| Value::float(value.as_f32() + length * turn as f32);

@@ -9,6 +9,7 @@ use crate::diphone_c::{self, VOICE_BYTES};
 use crate::dsp::{self, Flow};
 use crate::lent::WIDTHS;
 use crate::reference;
+use crate::refusal::Refusal;
 use crate::rng::Rng;
 use crate::sheet::{self, Sheet};
 use crate::utterance::Utterance;
@@ -20,7 +21,9 @@ use std::hint::black_box;
 pub enum Part {
     Open,
     Need,
+    StrictNeed,
     Plan,
+    StrictPlan,
     Pulls,
     RustParse,
     /// From the parsed voice to the excitation.
@@ -30,7 +33,10 @@ pub enum Part {
     RustWhole,
 }
 
-const PARTS: usize = 8;
+/// The number of a strict call's own refusal.
+const MISSING: u32 = Refusal::MissingPair as u32;
+
+const PARTS: usize = 10;
 
 unsafe extern "C" {
     fn clock_gettime(clock: i32, time: *mut [i64; 2]) -> i32;
@@ -91,7 +97,40 @@ pub struct Timed {
     params: VoiceParams,
     excitation: Excitation,
     pub samples: usize,
+    /// Whether the strict call is refused for a pair that finds no name.
+    pub lacking: bool,
     pub costs: Costs,
+}
+
+/// What a call needs, and its buffers, just long enough.
+pub struct Room {
+    /// Elements of the buffers that it fills.
+    pub elements: Vec<usize>,
+    pub need: Guarded,
+    pub buffers: [Guarded; 8],
+}
+
+impl Room {
+    pub fn new(rng: &mut Rng, request: &Request) -> Room {
+        let mut need = Guarded::new(rng, NEED_BYTES);
+        assert_eq!(archive::need(request, &mut need), 0, "need");
+        let number = |bytes: &[u8]| u64::from_le_bytes(bytes.try_into().expect("8 bytes"));
+        let elements: Vec<usize> = need
+            .bytes()
+            .chunks(8)
+            .map(|bytes| number(bytes) as usize)
+            .collect();
+        let buffers = std::array::from_fn(|i| match i {
+            6 => Guarded::new(rng, STATE_BYTES),
+            7 => Guarded::new(rng, SUMMARY_BYTES),
+            other => Guarded::new(rng, WIDTHS[other] * elements[other]),
+        });
+        Room {
+            elements,
+            need,
+            buffers,
+        }
+    }
 }
 
 impl Timed {
@@ -99,23 +138,14 @@ impl Timed {
     pub fn new(voice: &'static [u8], sheet: &Sheet, settings: Settings) -> Timed {
         let rng = &mut Rng::new(1);
         let sheet_bytes = sheet::write(sheet);
-        let request = request(voice, &sheet_bytes, settings);
-        let mut need = Guarded::new(rng, NEED_BYTES);
-        assert_eq!(archive::need(&request, &mut need), 0, "need");
-        let elements: Vec<usize> = need
-            .bytes()
-            .chunks(8)
-            .map(|bytes| u64::from_le_bytes(bytes.try_into().expect("8 bytes")) as usize)
-            .collect();
-        let mut buffers: [Guarded; 8] = std::array::from_fn(|i| {
-            let length = match i {
-                6 => STATE_BYTES,
-                7 => SUMMARY_BYTES,
-                other => WIDTHS[other] * elements[other],
-            };
-            Guarded::new(rng, length)
-        });
-        assert_eq!(archive::plan(&request, &mut buffers), 0, "plan");
+        let [loose, strict] = requests(voice, &sheet_bytes, settings);
+        let Room {
+            elements,
+            mut need,
+            mut buffers,
+        } = Room::new(rng, &loose);
+        let lacking = archive::need(&strict, &mut need) == MISSING;
+        assert_eq!(archive::plan(&loose, &mut buffers), 0, "plan");
         let lent = Lent::of(&buffers);
         let rust = DiphoneVoice::parse(voice).expect("a voice");
         let params = reference::params(&rust, settings);
@@ -126,6 +156,7 @@ impl Timed {
             opening: [vec![0; 8 * elements[0]], vec![0; VOICE_BYTES]],
             slice: Guarded::new(rng, 2 * elements[4]),
             samples: elements[4],
+            lacking,
             fresh: buffers[6].clone(),
             buffers,
             lent,
@@ -145,7 +176,10 @@ impl Timed {
         for period in reference::speak(&self.rust, sheet, self.settings) {
             let given = archive::pull(&mut state, &self.lent, &mut self.slice);
             assert_eq!(given, period.len() as i64, "samples of a period");
-            let bytes: Vec<u8> = period.iter().flat_map(|sample| sample.to_le_bytes()).collect();
+            let bytes: Vec<u8> = period
+                .iter()
+                .flat_map(|sample| sample.to_le_bytes())
+                .collect();
             assert!(self.slice.bytes().starts_with(&bytes), "samples");
         }
         let given = archive::pull(&mut state, &self.lent, &mut self.slice);
@@ -154,34 +188,51 @@ impl Timed {
 
     /// Every part once, the two sides in turn.
     pub fn round(&mut self) {
-        let Timed { voice, sheet, settings, costs, .. } = self;
+        let Timed {
+            voice,
+            sheet,
+            settings,
+            costs,
+            ..
+        } = self;
         let voice = *voice;
         let settings = *settings;
-        let request = request(voice, sheet, settings);
+        let [loose, strict] = requests(voice, sheet, settings);
         let (rust, utt, params) = (&self.rust, &self.utt, &self.params);
         let [index, record] = &mut self.opening;
 
         costs.time(Part::Open, || diphone_c::open(voice, index, record));
         drop(costs.time(Part::RustParse, || DiphoneVoice::parse(voice)));
-        costs.time(Part::Plan, || archive::plan(&request, &mut self.buffers));
+        costs.time(Part::Plan, || archive::plan(&loose, &mut self.buffers));
         costs.time(Part::RustPrepare, || prepare(rust, utt, settings.join));
         let mut state = self.fresh.clone();
-        costs.time(Part::Pulls, || while archive::pull(&mut state, &self.lent, &mut self.slice) >= 0 {});
-        costs.time(Part::RustFilter, || filter(rust, &self.excitation, settings.filter_in()));
-        costs.time(Part::Need, || archive::need(&request, &mut self.need));
+        costs.time(Part::Pulls, || {
+            while archive::pull(&mut state, &self.lent, &mut self.slice) >= 0 {}
+        });
+        costs.time(Part::RustFilter, || {
+            filter(rust, &self.excitation, settings.filter_in())
+        });
+        costs.time(Part::Need, || archive::need(&loose, &mut self.need));
         costs.time(Part::RustWhole, || {
             let rust = DiphoneVoice::parse(voice).expect("a voice");
             synthesise_streaming(&rust, utt, params, &mut sink);
         });
+        // As the others do, these come after the Rust's filter and its parse.
+        costs.time(Part::StrictNeed, || archive::need(&strict, &mut self.need));
+        drop(black_box(DiphoneVoice::parse(voice)));
+        costs.time(Part::StrictPlan, || {
+            archive::plan(&strict, &mut self.buffers)
+        });
     }
 }
 
-pub fn request<'a>(voice: &'a [u8], sheet: &'a [u8], settings: Settings) -> Request<'a> {
-    Request {
+/// A call as it is, and strict.
+pub fn requests<'a>(voice: &'a [u8], sheet: &'a [u8], settings: Settings) -> [Request<'a>; 2] {
+    [false, true].map(|strict| Request {
         voice,
         sheet,
-        settings: settings.word(),
-    }
+        settings: settings.strictly(strict).word(),
+    })
 }
 
 fn sink(period: &[i16]) -> Flow {

@@ -2,21 +2,20 @@
 //! in the Rust, in one process and in turn. `--out FOLDER` writes them.
 
 use super::synthetic;
-use super::timed::{prepare, request, thread_seconds};
+use super::timed::{prepare, requests, thread_seconds, Room};
 use crate::args::Args;
-use crate::call::{Filter, Join, Settings};
-use crate::calls::archive::{self, NEED_BYTES, STATE_BYTES, SUMMARY_BYTES};
-use crate::calls::guarded::Guarded;
+use crate::call::{Join, Settings};
+use crate::calls::archive;
 use crate::diphone::DiphoneVoice;
 use crate::diphone_c::{self, VOICE_BYTES};
 use crate::gen::voices::{self, EntrySpec, VoiceSpec};
 use crate::gen::{MAX_COUNT, PHONES};
-use crate::lent::WIDTHS;
 use crate::reference;
 use crate::rng::Rng;
 use crate::sheet::{self, Segment, Sheet, Value};
 use std::fs;
 use std::hint::black_box;
+use std::rc::Rc;
 
 /// How often each file is taken on either side.
 const ROUNDS: u64 = 3;
@@ -24,7 +23,7 @@ const ROUNDS: u64 = 3;
 pub fn run(args: &Args) -> bool {
     let rounds = args.count.unwrap_or(ROUNDS).max(1) as usize;
     let rng = &mut Rng::for_case(args.seed, 9_600_000);
-    println!("oracle worst: best of {rounds} rounds, ms: here, the Rust");
+    println!("oracle worst: best of {rounds} rounds, ms: here, strict here, the Rust");
     for (name, spec) in indexes(rng) {
         let voice = voices::file(&spec.sections());
         keep(args, &format!("{name}.flv"), &voice);
@@ -34,7 +33,9 @@ pub fn run(args: &Args) -> bool {
         let voice = voices::file(&spec.sections());
         keep(args, &format!("{name}.flv"), &voice);
         keep(args, &format!("{name}.sht"), &sheet::write(&sheet));
-        called(name, &voice, &sheet, rounds);
+        for join in [Join::Simple, Join::Modified] {
+            called(name, &voice, &sheet, join, rounds);
+        }
     }
     true
 }
@@ -52,7 +53,11 @@ fn voice(names: Vec<Vec<u8>>) -> VoiceSpec {
     spec.residual = vec![0xff; 2];
     spec.entries = names
         .into_iter()
-        .map(|name| EntrySpec { name, start: 0, halves: [1, 1] })
+        .map(|name| EntrySpec {
+            name,
+            start: 0,
+            halves: [1, 1],
+        })
         .collect();
     spec
 }
@@ -89,34 +94,68 @@ fn opened(name: &str, count: usize, voice: &[u8], rounds: usize) {
     let mut best = [f64::MAX; 2];
     let mut answer = 0;
     for _ in 0..rounds {
-        best[0] = best[0].min(seconds(|| answer = diphone_c::open(voice, &mut index, &mut record)));
+        best[0] = best[0].min(seconds(|| {
+            answer = diphone_c::open(voice, &mut index, &mut record)
+        }));
         best[1] = best[1].min(seconds(|| drop(DiphoneVoice::parse(leaked))));
     }
-    println!("  open {name:13} {count:8} names, answer {answer}: {:10.3} {:10.3}", best[0] * 1e3, best[1] * 1e3);
+    println!(
+        "  open {name:13} {count:8} names, answer {answer}: {:10.3} {:10.3}",
+        best[0] * 1e3,
+        best[1] * 1e3
+    );
 }
 
-/// Calls that cost most.
-fn calls(rng: &mut Rng) -> Vec<(&'static str, VoiceSpec, Sheet)> {
-    let phones: Vec<&str> = PHONES[..40].to_vec();
-    let mut wide: Vec<Vec<u8>> = numbered(1_500_000);
-    let pairs = phones.iter().flat_map(|l| phones.iter().map(move |r| format!("{l}-{r}").into_bytes()));
+/// Phones of the sheets that go with voices of many entries.
+const FORTY: &[&str] = PHONES.split_at(40).0;
+
+/// Calls that cost most. In the last one the last pair alone finds no name.
+fn calls(rng: &mut Rng) -> Vec<(&'static str, Rc<VoiceSpec>, Sheet)> {
+    let [unsorted, wide] = wide_voices(rng);
+    let next = |i: usize| if i + 1 < MAX_COUNT { i + 2 } else { 0 };
+    let far = |i: usize| 1 + i * 1_543 % MAX_COUNT;
+    let lacking = |mut sheet: Sheet| {
+        sheet.segments[MAX_COUNT - 1].name = "q".to_string();
+        sheet
+    };
+    let consonants = vec![("k".to_string(), MAX_COUNT); MAX_COUNT];
+    let few = |names: &[&str]| {
+        let names = names.iter().map(|name| name.as_bytes().to_vec());
+        Rc::new(voice(names.collect()))
+    };
+    let long = Rc::new(long_periods());
+    vec![
+        ("wide-unsorted", unsorted.clone(), random(rng, next)),
+        ("followers", few(&["k-k", "k_-_k"]), sheet(consonants)),
+        ("far-followers", few(&["k-k"]), random(rng, far)),
+        ("long-periods", long, sheet(alternating())),
+        ("wide", wide.clone(), random(rng, next)),
+        ("wide-far", wide.clone(), random(rng, far)),
+        ("unsorted-far", unsorted, random(rng, far)),
+        ("last-missing", wide, lacking(random(rng, far))),
+    ]
+}
+
+/// Voices with the plain names of all pairs among many others, in any order and
+/// in order.
+fn wide_voices(rng: &mut Rng) -> [Rc<VoiceSpec>; 2] {
+    let pair = |left: &str, right: &str| format!("{left}-{right}").into_bytes();
+    let pairs = FORTY
+        .iter()
+        .flat_map(|left| FORTY.iter().map(move |right| pair(left, right)));
+    let mut wide = numbered(1_500_000);
     wide.extend(pairs.clone());
     wide.sort();
     let mut unsorted = numbered(10_000);
     unsorted.extend(pairs);
     rng.shuffle(&mut unsorted);
-    let random = |rng: &mut Rng, follower: fn(usize) -> usize| {
-        sheet((0..MAX_COUNT).map(|i| (rng.pick(&phones).to_string(), follower(i))).collect())
-    };
-    let next = |i: usize| if i + 1 < MAX_COUNT { i + 2 } else { 0 };
-    let consonants = (0..MAX_COUNT).map(|_| ("k".to_string(), MAX_COUNT)).collect();
-    vec![
-        ("wide-unsorted", voice(unsorted), random(rng, next)),
-        ("followers", voice(vec![b"k-k".to_vec(), b"k_-_k".to_vec()]), sheet(consonants)),
-        ("far-followers", voice(vec![b"k-k".to_vec()]), random(rng, |i| 1 + i * 1_543 % MAX_COUNT)),
-        ("long-periods", long_periods(), sheet(alternating())),
-        ("wide", voice(wide), random(rng, next)),
-    ]
+    [unsorted, wide].map(|names| Rc::new(voice(names)))
+}
+
+/// The longest sheet, of any of these phones.
+fn random(rng: &mut Rng, follower: fn(usize) -> usize) -> Sheet {
+    let segments = (0..MAX_COUNT).map(|i| (rng.pick(FORTY).to_string(), follower(i)));
+    sheet(segments.collect())
 }
 
 fn sheet(segments: Vec<(String, usize)>) -> Sheet {
@@ -125,7 +164,10 @@ fn sheet(segments: Vec<(String, usize)>) -> Sheet {
         end: Value::float((i + 1) as f32 * 0.01),
         follower,
     };
-    Sheet { segments: segments.into_iter().enumerate().map(segment).collect(), targets: Vec::new() }
+    Sheet {
+        segments: segments.into_iter().enumerate().map(segment).collect(),
+        targets: Vec::new(),
+    }
 }
 
 /// A G.721 voice with two periods of 20,000 codes whose sizes say one sample.
@@ -139,44 +181,40 @@ fn long_periods() -> VoiceSpec {
 }
 
 fn alternating() -> Vec<(String, usize)> {
-    (0..400).map(|i| (["b", "d"][i % 2].to_string(), 0)).collect()
+    (0..400)
+        .map(|i| (["b", "d"][i % 2].to_string(), 0))
+        .collect()
 }
 
-fn called(name: &str, voice: &[u8], sheet: &Sheet, rounds: usize) {
-    let settings = Settings { join: Join::Simple, filter: Some(Filter::Fixed), fold: false };
-    let rng = &mut Rng::new(1);
+fn called(name: &str, voice: &[u8], sheet: &Sheet, join: Join, rounds: usize) {
     let bytes = sheet::write(sheet);
-    let request = request(voice, &bytes, settings);
-    let mut need = Guarded::new(rng, NEED_BYTES);
-    let answer = archive::need(&request, &mut need);
-    assert_eq!(answer, 0, "{name}: need");
-    let elements: Vec<usize> = need
-        .bytes()
-        .chunks(8)
-        .map(|bytes| u64::from_le_bytes(bytes.try_into().expect("8 bytes")) as usize)
-        .collect();
-    let mut buffers: [Guarded; 8] = std::array::from_fn(|i| match i {
-        6 => Guarded::new(rng, STATE_BYTES),
-        7 => Guarded::new(rng, SUMMARY_BYTES),
-        other => Guarded::new(rng, WIDTHS[other] * elements[other]),
-    });
+    let settings = Settings::new(join);
+    let requests = requests(voice, &bytes, settings);
+    let mut room = Room::new(&mut Rng::new(1), &requests[0]);
+    let answer = archive::need(&requests[1], &mut room.need);
     let leaked: &'static [u8] = Box::leak(voice.to_vec().into_boxed_slice());
     let utt = reference::prepared(sheet, settings);
-    let mut best = [f64::MAX; 3];
-    for _ in 0..rounds {
-        best[0] = best[0].min(seconds(|| archive::need(&request, &mut need)));
-        best[1] = best[1].min(seconds(|| archive::plan(&request, &mut buffers)));
-        best[2] = best[2].min(seconds(|| {
+    let mut best = [f64::MAX; 5];
+    for round in 0..rounds {
+        let mut costs = [0.0; 5];
+        // Which of the two comes first changes from round to round.
+        for side in [round % 2, 1 - round % 2] {
+            costs[2 * side] = seconds(|| archive::need(&requests[side], &mut room.need));
+            costs[2 * side + 1] = seconds(|| archive::plan(&requests[side], &mut room.buffers));
+        }
+        costs[4] = seconds(|| {
             let rust = DiphoneVoice::parse(leaked).expect("a voice");
-            prepare(&rust, &utt, settings.join)
-        }));
+            prepare(&rust, &utt, join)
+        });
+        best = std::array::from_fn(|i| best[i].min(costs[i]));
     }
-    let [need, plan, rust] = best.map(|seconds| seconds * 1e3);
+    let [need, plan, strict_need, strict_plan, rust] = best.map(|seconds| seconds * 1e3);
     println!(
-        "  call {name:13} {:8} entries, {:4} segments, {:5} marks: need {need:10.3}, plan {plan:10.3}; {rust:10.3}",
-        elements[0],
+        "  call {name:13} {join:?}, {:7} entries, {:4} segments, {:4} marks: need {need:8.3}, \
+         plan {plan:8.3}; strict, answer {answer}: {strict_need:8.3}, {strict_plan:8.3}; {rust:8.3}",
+        room.elements[0],
         sheet.segments.len(),
-        elements[1],
+        room.elements[1],
     );
 }
 

@@ -8,7 +8,7 @@ use crate::gen::voices::{self, Extent};
 use crate::gen::{damaged_sheets, damaged_voices, empty_heads, sheets, small};
 use crate::rng::Rng;
 use crate::sheet::write;
-use crate::statements::drafts::{draft, Draft, Limits};
+use crate::statements::drafts::{draft, Draft, Limits, STRICT};
 use crate::statements::kinds::{self, Kind};
 use crate::store;
 
@@ -21,13 +21,15 @@ const DAMAGED_SHEETS: u64 = 6;
 
 /// Entries of wide voices. The check of a simple join has room for 4,096
 /// places: those of all entries, of every second, third and so on.
-const WIDE: [usize; 9] = [4_095, 4_096, 4_097, 4_098, 8_191, 8_192, 8_193, 12_289, 20_001];
+pub const WIDE: [usize; 9] = [
+    4_095, 4_096, 4_097, 4_098, 8_191, 8_192, 8_193, 12_289, 20_001,
+];
 
 /// Segments of a wide voice's sheet.
-const PAIRS: usize = 120;
+pub const PAIRS: usize = 120;
 
 /// Segments of long sheets. The place of every 16th is kept for followers.
-const LONG: [usize; 9] = [15, 16, 17, 18, 33, 257, 1_000, 4_095, 4_096];
+pub const LONG: [usize; 9] = [15, 16, 17, 18, 33, 257, 1_000, 4_095, 4_096];
 
 /// Voices with periods without samples at the heads of units, ten of each
 /// order.
@@ -53,23 +55,31 @@ impl Generator {
     /// Every other call is of any extent; the rest are small, of each kind in
     /// turn.
     pub fn call(&self, rng: &mut Rng, case: u64) -> Call {
+        let number = case / 2;
+        let round = number / self.kinds.len() as u64;
         let small = match case % 2 {
             0 => None,
-            _ => self.small(rng, case),
+            _ => self.small(rng, number, round % STRICT),
         };
-        small.unwrap_or_else(|| good(rng, case))
+        let about = format!("case {case}");
+        match small {
+            None => good(rng, about),
+            Some(call) => Call {
+                about: format!("{about}, {} in round {round}", call.about),
+                ..call
+            },
+        }
     }
 
-    fn small(&self, rng: &mut Rng, case: u64) -> Option<Call> {
-        let number = case / 2;
-        let kind = self.kinds[number as usize % self.kinds.len()];
-        let round = number / self.kinds.len() as u64;
+    /// A small call of the kind of a number, as it is in a round.
+    pub fn small(&self, rng: &mut Rng, number: u64, round: u64) -> Option<Call> {
+        let kind = self.kinds[number as usize % self.kinds.len()].in_round(round);
         let draft = (0..MOST_DRAWS).find_map(|_| {
             let draft = draft(rng, kind, &self.limits)?.in_round(round);
             is_of(rng, kind, &draft).then_some(draft)
         })?;
         Some(Call {
-            about: format!("case {case}, {kind:?} in round {round} {}", draft.reason),
+            about: format!("{kind:?} {}", draft.reason),
             voice: draft.voice,
             sheet: draft.sheet,
             settings: draft.settings,
@@ -89,7 +99,7 @@ fn is_of(rng: &mut Rng, kind: Kind, draft: &Draft) -> bool {
 }
 
 /// Mostly calls that speak. Half of them name fixed, a quarter no filter.
-fn settings(rng: &mut Rng) -> Settings {
+pub fn settings(rng: &mut Rng) -> Settings {
     use Filter::{Fixed, Float};
     use Join::{Modified, None, Simple};
     Settings {
@@ -98,16 +108,17 @@ fn settings(rng: &mut Rng) -> Settings {
         ]),
         filter: rng.pick(&[Some(Fixed), Some(Float), Some(Fixed), Option::None]),
         fold: rng.once_in(2),
+        strict: false,
     }
 }
 
-fn good(rng: &mut Rng, case: u64) -> Call {
+fn good(rng: &mut Rng, about: String) -> Call {
     let words = voices::vocabulary(rng);
     let covering = rng.once_in(2);
     let spec = voices::voice(rng, &words, Extent::Any, covering);
     let sheet = sheets::sheet(rng, &words, spec.header.rate);
     Call {
-        about: format!("case {case}"),
+        about,
         voice: voices::file(&voices::with_extras(rng, &spec)),
         sheet: write(&sheet),
         settings: settings(rng),
@@ -115,7 +126,7 @@ fn good(rng: &mut Rng, case: u64) -> Call {
 }
 
 /// A small good voice and sheet.
-fn small_good(rng: &mut Rng) -> Call {
+pub fn small_good(rng: &mut Rng) -> Call {
     let words = small::vocabulary(rng);
     let shape = small::shape(rng);
     let spec = small::voice(rng, &words, shape);
@@ -194,7 +205,10 @@ pub fn wide(seed: u64, mut check: impl FnMut(&mut Rng, Call)) {
                 about: format!("{count} entries, in order: {ordered}"),
                 voice: voices::file(&wide.sections()),
                 sheet: write(&sheets::long(rng, &words, PAIRS)),
-                settings: Settings { join: Join::Simple, ..settings(rng) },
+                settings: Settings {
+                    join: Join::Simple,
+                    ..settings(rng)
+                },
             };
             check(rng, call);
         }
@@ -213,7 +227,10 @@ pub fn long(seed: u64, mut check: impl FnMut(&mut Rng, Call)) {
                 about: format!("{count} segments, {join:?}"),
                 voice: voices::file(&spec.sections()),
                 sheet: write(&sheets::long(rng, &words, count)),
-                settings: Settings { join, ..settings(rng) },
+                settings: Settings {
+                    join,
+                    ..settings(rng)
+                },
             };
             check(rng, call);
         }
@@ -236,7 +253,10 @@ pub fn empty_heads(seed: u64, mut check: impl FnMut(&mut Rng, Call)) {
             about: format!("empty heads {case}"),
             voice: voices::file(&spec.sections()),
             sheet: write(&sheet),
-            settings: Settings { join, ..settings(rng) },
+            settings: Settings {
+                join,
+                ..settings(rng)
+            },
         };
         check(rng, call);
     }

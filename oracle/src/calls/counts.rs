@@ -1,14 +1,13 @@
 //! What a run of `oracle calls` met.
 
 use super::machine::{DONE, IMPOSSIBLE, SHORT_SLICE};
+use super::strict_counts::Strict;
 use crate::call::{Settings, JOINS, NAMED};
-use crate::expected::{Spoken, SHORT_BUFFER};
+use crate::expected::{answers, Spoken, SHORT_BUFFER};
+use crate::refusal::{numbered, ByNumber, LAST};
 use crate::report::Report;
 use crate::taking::Tally;
 use crate::voicefile::Voice;
-
-/// By a number of document 01's table; 0 counts what is not refused.
-type ByNumber = [u64; SHORT_BUFFER + 1];
 
 /// The settings and the sorts of voices; the last is of `sts.ressize`.
 const SORTS: [&[&str]; 4] = [
@@ -81,6 +80,7 @@ pub struct Counts {
     short_slices: u64,
     impossible: u64,
     pairs: [u64; PAIRS.len()],
+    pub strict: Strict,
     /// Calls that the Rust would take too long for.
     pub not_compared: u64,
 }
@@ -107,16 +107,16 @@ impl Counts {
     }
 
     pub fn need(&mut self, answer: usize) {
-        self.needs[answer.min(SHORT_BUFFER)] += 1;
+        self.needs[answer.min(LAST)] += 1;
     }
 
     pub fn plan(&mut self, answer: usize) {
-        self.plans[answer.min(SHORT_BUFFER)] += 1;
+        self.plans[answer.min(LAST)] += 1;
     }
 
     /// A report that answers so, of a call with so many lines to compare.
     pub fn report(&mut self, answer: usize, lines: usize) {
-        self.reports[answer.min(SHORT_BUFFER)] += 1;
+        self.reports[answer.min(LAST)] += 1;
         self.with_lines += u64::from(lines > 0);
         self.lines += lines as u64;
     }
@@ -145,7 +145,7 @@ impl Counts {
 
     /// Every number must have been met.
     pub fn check_reached(&self, report: &mut Report) {
-        for number in 1..SHORT_BUFFER {
+        for number in answers().filter(|number| ![0, SHORT_BUFFER].contains(number)) {
             let met = self.refused[number] > 0;
             report.check(met, || format!("number {number} was not reached"));
         }
@@ -171,7 +171,8 @@ impl Counts {
             let pairs = named(&PAIRS, &self.pairs);
             format!("made with no filter named and with float: {pairs}")
         });
-        let answered = self.reports.iter().all(|count| *count > 0);
+        self.strict.check_reached(report);
+        let answered = answers().all(|number| self.reports[number] > 0);
         report.check(answered, || {
             let reports = numbered(&self.reports);
             format!("an answer of a report was not reached: {reports}")
@@ -201,6 +202,7 @@ impl Counts {
             "  made with no filter named and with float named: {}",
             named(&PAIRS, &self.pairs)
         );
+        self.strict.print();
         println!(
             "  not compared, as the Rust would take long: {}",
             self.not_compared
@@ -226,18 +228,10 @@ fn sorted(counts: &BySort) -> String {
     shown.join("; ")
 }
 
-fn named(names: &[&str], counts: &[u64]) -> String {
+pub fn named(names: &[&str], counts: &[u64]) -> String {
     let named = names.iter().zip(counts);
     let shown: Vec<String> = named
         .map(|(name, count)| format!("{name} {count}"))
-        .collect();
-    shown.join(", ")
-}
-
-fn numbered(counts: &ByNumber) -> String {
-    let met = counts.iter().enumerate().filter(|(_, count)| **count > 0);
-    let shown: Vec<String> = met
-        .map(|(number, count)| format!("{number}: {count}"))
         .collect();
     shown.join(", ")
 }

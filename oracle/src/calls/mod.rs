@@ -11,6 +11,10 @@ mod odd_states;
 mod planning;
 mod pulling;
 mod reporting;
+mod strict;
+mod strict_cases;
+mod strict_counts;
+mod twins;
 mod unnamed;
 
 use crate::args::Args;
@@ -24,6 +28,9 @@ use counts::Counts;
 
 /// Generated calls in a run that is not told otherwise.
 const CALLS: u64 = 2_000;
+
+/// So many generated calls are followed by a strict one.
+const STRICT: u64 = 2;
 
 /// The call's files and settings, and what it is.
 pub struct Call {
@@ -57,6 +64,12 @@ pub fn run(args: &Args) -> bool {
     cases::long(args.seed, &mut each);
     cases::empty_heads(args.seed, &mut each);
     cases::stored(args.seed, &mut each);
+    let numbers = args.from / STRICT..(args.from + calls) / STRICT;
+    strict_cases::generated(args.seed, numbers, &generator, &mut each);
+    strict_cases::unfit(args.seed, &mut each);
+    strict_cases::at_limits(args.seed, &mut each);
+    strict_cases::wide(args.seed, &mut each);
+    strict_cases::long(args.seed, &mut each);
     bench.counts.check_reached(&mut bench.report);
     println!("oracle calls: seed {}, {calls} generated calls", args.seed);
     bench.counts.print();
@@ -70,14 +83,10 @@ pub fn run(args: &Args) -> bool {
 /// One call with buffers of every sort. Its files stay as they are.
 pub fn check(rng: &mut Rng, call: &Call, bench: &mut Bench) {
     let kept = [call.voice.clone(), call.sheet.clone()];
-    let any = Most {
-        marks: usize::MAX,
-        samples: usize::MAX,
-    };
-    // Drawn from a copy: what the report and the pair draw moves no draw after
+    // Drawn from a copy: what the report and the twins draw moves no draw after
     // it.
     let own = &mut rng.clone();
-    let given = expected::given(&call.voice, &call.sheet, call.settings, any);
+    let given = expected::given(&call.voice, &call.sheet, call.settings, Most::ANY);
     match &given {
         None => bench.counts.not_compared += 1,
         Some(Given::Refused(refusal)) => {
@@ -92,6 +101,9 @@ pub fn check(rng: &mut Rng, call: &Call, bench: &mut Bench) {
     }
     if let (None, Some(given)) = (call.settings.filter, &given) {
         unnamed::compare(own, call, given, bench);
+    }
+    if let (true, Some(given)) = (call.settings.strict, &given) {
+        strict::compare(own, call, given, bench);
     }
     let same = kept[0] == call.voice && kept[1] == call.sheet;
     bench

@@ -34,7 +34,7 @@ fn width(buffer: usize) -> usize {
 }
 
 /// The settings as a word, in one of its forms: 3 is the modified join too, 3
-/// of the filter's bits is float too, and bits from 5 on mean nothing.
+/// of the filter's bits is float too, and bits from 6 on mean nothing.
 pub fn request<'a>(rng: &mut Rng, call: &'a Call) -> Request<'a> {
     let settings = call.settings;
     let mut word = settings.word();
@@ -44,7 +44,7 @@ pub fn request<'a>(rng: &mut Rng, call: &'a Call) -> Request<'a> {
     if settings.filter == Some(Filter::Float) {
         word |= rng.pick(&[0, 0, 0, 4]);
     }
-    word |= rng.pick(&[0, 0, 0, 32, 256, u32::MAX << 5]);
+    word |= rng.pick(&[0, 0, 0, 64, 256, u32::MAX << 6]);
     Request {
         voice: &call.voice,
         sheet: &call.sheet,

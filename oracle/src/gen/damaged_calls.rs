@@ -9,6 +9,7 @@ use crate::refusal::Refusal;
 use crate::sheet::{write, Segment, Sheet, Target, Value};
 
 /// A call with the answer that it must get.
+#[derive(Clone)]
 pub struct LabelledCall {
     pub voice: Vec<u8>,
     pub sheet: Vec<u8>,
@@ -342,7 +343,7 @@ pub fn two_periods(rate: u32) -> VoiceSpec {
 }
 
 /// Segments named `pau` and `aa` in turn with these ends.
-fn sheet(ends: &[f32], contour: &[(f32, f32)]) -> Sheet {
+pub(super) fn sheet(ends: &[f32], contour: &[(f32, f32)]) -> Sheet {
     let names: Vec<&str> = (0..ends.len()).map(|i| ["pau", "aa"][i % 2]).collect();
     sheet_of(&names, ends, contour)
 }

@@ -27,6 +27,8 @@ pub fn about(kind: Kind, draft: &Draft, shown: &Expected) -> String {
     }
     if shown.number == 0 {
         details.extend(spoken_details(kind, draft, shown));
+    } else if draft.settings.strict {
+        details.push(format!("strict, {} join", join_name(draft.settings.join)));
     }
     format!("{name}: {}", details.join(", "))
 }
@@ -40,6 +42,9 @@ fn spoken_details(kind: Kind, draft: &Draft, shown: &Expected) -> Vec<String> {
     let mut details = Vec::new();
     if !matches!(kind, Kind::Spoken(..)) {
         details.push(format!("{} join", join_name(settings.join)));
+    }
+    if settings.strict {
+        details.push("strict".to_string());
     }
     details.extend([
         filter_name(settings.filter).to_string(),

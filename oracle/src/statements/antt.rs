@@ -66,8 +66,8 @@ fn settings(settings: Settings) -> String {
         Some(Filter::Float) => "Named Float",
         None => "Unnamed",
     };
-    let fold = settings.fold;
-    format!("record {{ join = {join}; filter = {filter}; fold = {fold} }}")
+    let Settings { fold, strict, .. } = settings;
+    format!("record {{ join = {join}; filter = {filter}; fold = {fold}; strict = {strict} }}")
 }
 
 fn buffers(buffers: &Buffers) -> String {

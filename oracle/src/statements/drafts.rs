@@ -3,6 +3,7 @@
 use super::kinds::Kind;
 use crate::call::{Filter, Join, Settings};
 use crate::gen::damaged_calls::{self, entry, LabelledCall};
+use crate::gen::shaped::without_names;
 use crate::gen::small::{self, Shape};
 use crate::gen::voices::{file, plain, with_extras, Vocabulary, VoiceSpec};
 use crate::gen::{damaged_sheets, damaged_voices, Labelled};
@@ -16,8 +17,10 @@ use std::collections::BTreeMap;
 const MOST_VOICE: usize = 640;
 const MOST_SHEET: usize = 140;
 
-/// Rounds through the kinds; in the last of them no call names float.
-pub const ROUNDS: u64 = 4;
+/// The round through the kinds in which no call names float, and the strict one
+/// behind it.
+pub const UNNAMED: u64 = 3;
+pub const STRICT: u64 = 4;
 
 /// A call before its buffers and slices are drawn.
 pub struct Draft {
@@ -30,12 +33,13 @@ pub struct Draft {
 }
 
 impl Draft {
-    /// The call as it is in a round through the kinds: in the last of four it
-    /// names no filter where it was drawn with float.
+    /// The call as it is in a round through the kinds: it names no filter where
+    /// it was drawn with float, or it is strict.
     pub fn in_round(mut self, round: u64) -> Draft {
-        if round % ROUNDS == ROUNDS - 1 && self.settings.filter_in() == Filter::Float {
+        if round == UNNAMED && self.settings.filter_in() == Filter::Float {
             self.settings.filter = None;
         }
+        self.settings.strict = round == STRICT;
         self
     }
 }
@@ -80,7 +84,9 @@ fn at_limit(rng: &mut Rng, call: &LabelledCall) -> Draft {
 /// cannot be had from what was drawn.
 pub fn draft(rng: &mut Rng, kind: Kind, limits: &Limits) -> Option<Draft> {
     let draft = match kind {
-        Kind::Spoken(settings, shape) => good(rng, settings, shape),
+        Kind::Spoken(settings, shape) | Kind::Missing(settings, shape) => {
+            good(rng, settings, shape)
+        }
         Kind::FarMarks => far_marks(rng),
         Kind::LongPeriod { tone } => long_period(rng, tone),
         Kind::OneMark => simple_call(rng),
@@ -94,6 +100,7 @@ pub fn draft(rng: &mut Rng, kind: Kind, limits: &Limits) -> Option<Draft> {
         Kind::ManyMarks { too_many } => return Some(many_marks(rng, too_many)),
         Kind::Short(buffer) => short(rng, buffer),
         Kind::Several => several(rng, limits)?,
+        Kind::MissingBefore(cause) => lacking(limits.pick(rng, Some(cause))),
     };
     let small = draft.voice.len() <= MOST_VOICE && draft.sheet.len() <= MOST_SHEET;
     small.then_some(draft)
@@ -241,6 +248,15 @@ fn unfit_call(rng: &mut Rng, cause: Refusal, limits: &Limits) -> Draft {
     Draft {
         reason: "an odd sheet".to_string(),
         ..drafted(rng, &spec, &sheet, settings)
+    }
+}
+
+/// The call with a voice in which no pair finds a name.
+fn lacking(draft: Draft) -> Draft {
+    Draft {
+        voice: without_names(&draft.voice),
+        reason: format!("no name, and {}", draft.reason),
+        ..draft
     }
 }
 

@@ -1,5 +1,6 @@
 //! The kinds of calls that a run goes through.
 
+use super::drafts::STRICT;
 use super::rounding;
 use crate::call::{Filter, Join, Settings};
 use crate::expected::{Given, Most, Spoken, SHORT_BUFFER};
@@ -17,10 +18,6 @@ const LONG: Most = Most {
     marks: 12,
     samples: 300,
 };
-const ANY: Most = Most {
-    marks: usize::MAX,
-    samples: usize::MAX,
-};
 
 #[derive(Clone, Copy, Debug, PartialEq, Eq)]
 pub enum Kind {
@@ -29,7 +26,9 @@ pub enum Kind {
     /// Spoken, with marks that lie far apart.
     FarMarks,
     /// Spoken, with a long G.721 period, of any codes or of a tone.
-    LongPeriod { tone: bool },
+    LongPeriod {
+        tone: bool,
+    },
     /// Spoken, with one mark, which gives no period.
     OneMark,
     /// Spoken, by samples that tell how the float filter rounds.
@@ -47,19 +46,38 @@ pub enum Kind {
     /// Refused for its slopes, marks or target ends.
     Call(Refusal),
     /// Refused with 12, one mark too many, or with all marks for its buffers.
-    ManyMarks { too_many: bool },
+    ManyMarks {
+        too_many: bool,
+    },
     /// Refused with 13 for one buffer.
     Short(usize),
     /// Refused, with several causes.
     Several,
+    /// Strict, and refused with 16; the second with another cause behind it.
+    Missing(Settings, Shape),
+    MissingBefore(Refusal),
 }
 
 impl Kind {
+    /// The kind in a round through all: in the strict one half of those that are
+    /// spoken are refused with 16 instead, and so are those refused for a call's
+    /// slopes, marks or target ends.
+    pub fn in_round(self, round: u64) -> Kind {
+        match self {
+            other if round != STRICT => other,
+            Kind::Spoken(settings, shape) if shape.g721 == shape.sizes => {
+                Kind::Missing(settings, shape)
+            }
+            Kind::Call(cause) => Kind::MissingBefore(cause),
+            other => other,
+        }
+    }
+
     /// The most that a call of this kind may make.
     pub fn most(self) -> Most {
         match self {
             Kind::LongPeriod { .. } => LONG,
-            Kind::ManyMarks { .. } => ANY,
+            Kind::ManyMarks { .. } => Most::ANY,
             _ => SMALL,
         }
     }
@@ -124,6 +142,7 @@ pub fn is_of(rng: &mut Rng, kind: Kind, voice: &[u8], given: &Given, number: usi
         (Kind::ManyMarks { too_many: true }, _) => number == Refusal::TooManyMarks.number(),
         (Kind::ManyMarks { .. } | Kind::Short(_), _) => number == SHORT_BUFFER,
         (Kind::Several, _) => number != 0,
+        (Kind::Missing(..) | Kind::MissingBefore(_), _) => number == Refusal::MissingPair.number(),
         (_, Given::Spoken(spoken)) => number == 0 && is_spoken(rng, kind, voice, spoken),
         _ => false,
     }

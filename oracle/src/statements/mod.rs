@@ -12,12 +12,15 @@ use crate::call::Settings;
 use crate::expected::{self, Expected, Given};
 use crate::lent::{self, Buffers};
 use crate::rng::Rng;
-use drafts::{Draft, Limits, ROUNDS};
+use drafts::{Draft, Limits, STRICT, UNNAMED};
 use kinds::Kind;
 use std::ops::Range;
 
 /// Calls in a run that is not told otherwise.
 const CALLS: u64 = 30;
+
+/// Rounds through the kinds, the strict one last.
+const ROUNDS: u64 = STRICT + 1;
 
 /// Draws for one call before something must be wrong.
 const MOST_DRAWS: usize = 20_000;
@@ -66,14 +69,14 @@ pub fn run(args: &Args) -> bool {
 /// The numbers of the first round with calls that name no filter.
 pub fn unnamed_round() -> Range<u64> {
     let kinds = kinds::all().len() as u64;
-    (ROUNDS - 1) * kinds..ROUNDS * kinds
+    UNNAMED * kinds..(UNNAMED + 1) * kinds
 }
 
 /// The call of one number. It depends on the seed and the number only.
 pub fn drawn(seed: u64, number: u64, limits: &Limits) -> Drawn {
     let kinds = kinds::all();
-    let kind = kinds[number as usize % kinds.len()];
-    let round = number / kinds.len() as u64;
+    let round = number / kinds.len() as u64 % ROUNDS;
+    let kind = kinds[number as usize % kinds.len()].in_round(round);
     let rng = &mut Rng::for_case(seed, 3_000_000 + number);
     for _ in 0..MOST_DRAWS {
         let draft = drafts::draft(rng, kind, limits).map(|draft| draft.in_round(round));

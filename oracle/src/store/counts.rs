@@ -1,25 +1,28 @@
 //! What the stored calls are, and whether every kind is among them.
 
 use super::record::Stored;
-use crate::call::{Join, Settings};
-use crate::expected::SHORT_BUFFER;
+use crate::call::{Join, Settings, JOINS};
+use crate::expected::answers;
+use crate::refusal::{numbered, ByNumber, Refusal};
 use crate::voicefile;
 use std::collections::{BTreeMap, BTreeSet};
 
-/// 10 needs a slope, which the simple join has not.
-const SLOPE: usize = 10;
+/// Document 01's program meets neither: 10 needs a slope, which the simple join
+/// has not, and its calls are not strict.
+const NOT_BY_PROGRAM: [Refusal; 2] = [Refusal::Slope, Refusal::MissingPair];
 
 #[derive(Default)]
 pub struct Counts {
     /// Calls and bytes by kind.
     kinds: BTreeMap<String, [usize; 2]>,
     /// Calls by answer; 0 counts those that are spoken.
-    answers: [usize; SHORT_BUFFER + 1],
-    by_program: [usize; SHORT_BUFFER + 1],
-    unnamed: [usize; SHORT_BUFFER + 1],
+    answers: ByNumber,
+    by_program: ByNumber,
+    unnamed: ByNumber,
+    strict: ByNumber,
     /// Spoken calls with their periods and samples.
     spoken: [usize; 3],
-    /// What was spoken: settings, codecs, orders.
+    /// What was spoken: settings, codecs, orders; and what was refused with 16.
     met: BTreeSet<String>,
 }
 
@@ -33,6 +36,12 @@ impl Counts {
         }
         if call.names_none() {
             self.unnamed[call.number] += 1;
+        }
+        if call.settings.strict {
+            self.strict[call.number] += 1;
+        }
+        if call.number == Refusal::MissingPair.number() {
+            self.met.insert(missing_in(call.settings.join));
         }
         let Some(spoken) = &call.spoken else {
             return;
@@ -50,23 +59,24 @@ impl Counts {
 
     /// What is not among the calls.
     pub fn missing(&self) -> Vec<String> {
-        let number = |number: &usize| self.answers[*number] == 0;
-        let program = |number: &usize| *number != SLOPE && self.by_program[*number] == 0;
-        let numbers = 0..=SHORT_BUFFER;
-        let mut missing: Vec<String> = numbers
-            .clone()
-            .filter(number)
-            .map(|n| format!("answer {n}"))
+        let by_program = |number: &usize| {
+            let not = NOT_BY_PROGRAM.map(Refusal::number);
+            !not.contains(number) && self.by_program[*number] == 0
+        };
+        let mut missing: Vec<String> = answers()
+            .filter(|number| self.answers[*number] == 0)
+            .map(|number| format!("answer {number}"))
             .collect();
         missing.extend(
-            numbers
-                .filter(program)
-                .map(|n| format!("answer {n} of the program")),
+            answers()
+                .filter(by_program)
+                .map(|number| format!("answer {number} of the program")),
         );
         if self.unnamed[1..].iter().all(|count| *count == 0) {
             missing.push("a refusal where no filter is named".to_string());
         }
         let mut wanted = vec![order(0), order(32)];
+        wanted.extend(JOINS.map(missing_in));
         for settings in Settings::all() {
             wanted.extend([false, true].map(|g721| setting_and_codec(settings, g721)));
         }
@@ -84,6 +94,7 @@ impl Counts {
             numbered(&self.by_program)
         );
         println!("  those that name no filter: {}", numbered(&self.unnamed));
+        println!("  strict ones: {}", numbered(&self.strict));
         let [calls, periods, samples] = self.spoken;
         println!("  spoken: {calls} calls, {periods} periods, {samples} samples");
     }
@@ -98,10 +109,6 @@ fn order(order: usize) -> String {
     format!("order {order} spoken")
 }
 
-fn numbered(counts: &[usize]) -> String {
-    let shown: Vec<String> = (0..)
-        .zip(counts)
-        .map(|(number, count): (usize, _)| format!("{number}: {count}"))
-        .collect();
-    shown.join(", ")
+fn missing_in(join: Join) -> String {
+    format!("16 with join {join:?}")
 }

@@ -8,11 +8,10 @@ use crate::gen::voices::{file, plain, VoiceSpec};
 use crate::sheet::{write, Segment, Sheet, Target, Value};
 
 pub fn all() -> Vec<Stored> {
-    let mut calls = every_setting("document 01's example", &two_periods(8000), &example());
-    for codec in [0, 1] {
-        let kind = "spoken, one call in every setting";
-        calls.extend(every_setting(kind, &four_periods(codec), &folded()));
-    }
+    let voice = file(&two_periods(8000).sections());
+    let sheet = write(&example());
+    let mut calls = every_setting("document 01's example", &voice, &sheet, Settings::loose());
+    calls.extend(either_codec(Settings::loose()));
     for (voice, sheet) in by_program() {
         calls.extend(edge(&voice, &sheet, PROGRAM));
     }
@@ -23,11 +22,20 @@ pub fn all() -> Vec<Stored> {
     calls
 }
 
-fn every_setting(kind: &str, voice: &VoiceSpec, sheet: &Sheet) -> Vec<Stored> {
-    let voice = file(&voice.sections());
-    let sheet = write(sheet);
-    let call = |settings| Stored::new(kind, &voice, &sheet, settings, BUFFERS);
-    Settings::all().into_iter().filter_map(call).collect()
+/// One call of either codec in each of these settings.
+pub fn either_codec(settings: Vec<Settings>) -> Vec<Stored> {
+    let kind = "spoken, one call in every setting";
+    let sheet = write(&folded());
+    let calls = |codec| {
+        let voice = file(&four_periods(codec).sections());
+        every_setting(kind, &voice, &sheet, settings.clone())
+    };
+    [0, 1].into_iter().flat_map(calls).collect()
+}
+
+fn every_setting(kind: &str, voice: &[u8], sheet: &[u8], settings: Vec<Settings>) -> Vec<Stored> {
+    let call = |settings| Stored::new(kind, voice, sheet, settings, BUFFERS);
+    settings.into_iter().filter_map(call).collect()
 }
 
 /// Document 01's example sheet.

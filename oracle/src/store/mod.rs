@@ -5,6 +5,7 @@ mod counts;
 mod edges;
 mod larger;
 mod record;
+mod strict;
 
 use crate::args::Args;
 use crate::statements::{self, drafts::Limits};
@@ -50,7 +51,8 @@ pub fn run(args: &Args) -> bool {
 
 /// The calls of `oracle statements` and larger ones, each as it was drawn and
 /// as document 01's program speaks it; then the edges. Those that name no filter
-/// stand at the end, some more of `oracle statements` among them.
+/// stand behind them, some more of `oracle statements` among them, and the strict
+/// ones at the end.
 pub fn calls(seed: u64, count: u64) -> Vec<Stored> {
     let limits = Limits::new();
     let small = |numbers: Range<u64>| numbers.filter_map(|number| small(seed, number, &limits));
@@ -59,6 +61,7 @@ pub fn calls(seed: u64, count: u64) -> Vec<Stored> {
     calls.extend(edges::all());
     calls.extend(small(statements::unnamed_round()).filter(Stored::names_none));
     calls.sort_by_key(Stored::names_none);
+    calls.extend(strict::all());
     calls
 }
 

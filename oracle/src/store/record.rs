@@ -9,6 +9,7 @@ pub const PROGRAM: Settings = Settings {
     join: Join::Simple,
     filter: Some(Filter::Fixed),
     fold: false,
+    strict: false,
 };
 
 /// The bytes of its buffers: index, marks, sizes, rows, excitation, decoded.
@@ -21,11 +22,6 @@ const MOST_SHEET: usize = 4_096;
 
 /// More than it can print.
 const MOST_TEXT: usize = 41_000;
-
-const ANY: Most = Most {
-    marks: usize::MAX,
-    samples: usize::MAX,
-};
 
 pub struct Stored {
     /// What the call is.
@@ -56,7 +52,7 @@ impl Stored {
             return None;
         }
         let lent = std::array::from_fn(|i| lent[i].min(BUFFERS[i]));
-        let (number, spoken) = match expected::given(voice, sheet, settings, ANY)? {
+        let (number, spoken) = match expected::given(voice, sheet, settings, Most::ANY)? {
             Given::Refused(refusal) => (refusal.number(), None),
             Given::Spoken(spoken) if spoken.fits_in(&lent) => (0, Some(spoken)),
             Given::Spoken(_) => (SHORT_BUFFER, None),

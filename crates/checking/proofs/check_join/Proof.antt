@@ -15,8 +15,8 @@ no-marks-requires c κs = search needs
 enum-told-2 : tie.Need-enum-told-2
 enum-told-2 c = search needs
 
-check-simple-requires : tie.Need-check-simple-requires
-check-simple-requires c κs = search needs
+check-natural-requires : tie.Need-check-natural-requires
+check-natural-requires c κs = search needs
 
 enum-told-3 : tie.Need-enum-told-3
 enum-told-3 c = search needs
@@ -29,19 +29,15 @@ returns c =
     let s = c .before .before .before .before .before .before .args in by-none (s .join) (s .file .now) (s .by .fold) (s .sheet .now) (c .no-marks .result) (c .before .enum-told .given .1)
     (c .no-marks .ensures)
 
-same-length : tie.Need-same-length
-same-length c = search needs
-
 returns-2 : tie.Need-returns-2
 returns-2 c =
-    let s = c .before .before .before .before .before .before .before .before .before .args in
-    let k = c .before .before .check-simple in
-    by-simple (s .join) (s .file .now) (s .by .fold) (s .sheet .now) (k .result) (c .before .before .before .before .enum-told2 .given .1) (k .ensures)
+    let s = c .before .before .before .before .before .before .args in by-simple (s .join) (s .file .now) (s .by .fold) (s .sheet .now) (c .check-natural .result) (c .before .enum-told2 .given .1)
+    (c .check-natural .ensures)
 
 returns-3 : tie.Need-returns-3
 returns-3 c =
     let s = c .before .before .before .before .before .before in
-    let rate = ap (λ (h : VoiceHeader). h .rate) (header-is (s .args .file .now) (s .args .by .voice) (s .pre .0 .places)) in
+    let rate = ap (λ (h : VoiceHeader). h .rate) (header-is (s .args .file .now) (s .args .by .voice) (s .pre .0 .opened .places)) in
     by-modified (s .args .join) (s .args .file .now) (s .args .by .fold) (s .args .sheet .now) (c .check-modified .result) (c .before .enum-told3 .given .1) (c .check-modified .ensures _ (s .args .by .fold) rate)
 
 pub check-join-spec : {M : Type 1} → statement M
@@ -51,10 +47,9 @@ check-join-spec =
     enum-told
     no-marks-requires
     enum-told-2
-    check-simple-requires
+    check-natural-requires
     enum-told-3
     check-modified-requires
     returns
-    same-length
     returns-2
     returns-3)

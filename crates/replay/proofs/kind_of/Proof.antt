@@ -2,13 +2,13 @@ use borrow.Author.Needs.{needs}
 use mathlib.Core.Path.{_≡_, refl, sym, _∙_}
 use Prim.Native.Nat.{_≤_}
 use native.Mathlib.Omega.{arith}
-use Rattle.replay.specs.Stored.{kindUpTo, kindOf}
+use Rattle.replay.specs.Stored.{kindUpTo, lastKind, kindOf}
 use Rattle.replay.proofs.StoredLaws.{kind-none, kind-here, kind-below}
 use Rattle.replay.proofs.kind_of.Statement.{statement}
 use Rattle.replay.proofs.kind_of.Tie as tie
 
 abbrev Inv-loop : tie.InvT-loop
-Inv-loop text number₀ number = (number ≤ 13) × (kindUpTo text number ≡ kindOf text)
+Inv-loop text number₀ number = (number ≤ lastKind) × (kindUpTo text number ≡ kindOf text)
 
 abbrev μ-loop : tie.MeasureT-loop
 μ-loop text number₀ number = number

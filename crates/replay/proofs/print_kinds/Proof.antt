@@ -1,13 +1,14 @@
 use borrow.Author.Needs.{needs}
-use Prim.Native.Nat.{_-_, _≤_}
+use Prim.Native.Nat.{_+_, _-_, _≤_}
+use Rattle.replay.specs.Stored.{lastKind}
 use Rattle.replay.proofs.print_kinds.Statement.{statement}
 use Rattle.replay.proofs.print_kinds.Tie as tie
 
 abbrev Inv-loop : tie.InvT-loop
-Inv-loop kinds k₀ k = k ≤ 14
+Inv-loop kinds k₀ k = k ≤ lastKind + 1
 
 abbrev μ-loop : tie.MeasureT-loop
-μ-loop kinds k₀ k = 14 - k
+μ-loop kinds k₀ k = lastKind + 1 - k
 
 loop-holds : tie.Need-loop-holds Inv-loop μ-loop
 loop-holds c = search needs

@@ -1,39 +1,11 @@
 use mathlib.Core.Path.{sym, _∙_}
-use borrow.Author.Tests.{not-true, not-false}
-use Rattle.sheet.specs.Sheet.{sheetOf}
-use Rattle.sheet.specs.Answers.{segmentRead}
-use Rattle.units.proofs.SelectLaws.{name-short, selected-plain, selected-found, selected-missing}
+use Rattle.units.proofs.SelectLaws.{selected-found, selected-first}
 use borrow.Author.Needs.{needs}
 use Rattle.units.proofs.select.select.Statement.{statement}
 use Rattle.units.proofs.select.select.Tie as tie
 
-bytes-at-requires : tie.Need-bytes-at-requires
-bytes-at-requires c κs = search needs
-
-bytes-at-requires-2 : tie.Need-bytes-at-requires-2
-bytes-at-requires-2 c κs = search needs
-
-in-cluster-requires : tie.Need-in-cluster-requires
-in-cluster-requires c κs = search needs
-
-select-plain-requires : tie.Need-select-plain-requires
-select-plain-requires c κs =
-    let a = c .before .before .before .before .before .before .before in
-    let l = a .pre .1 .1 .1 in
-    (a .pre .0, (name-short (l .0) (c .before .before .before .bytes-at .ensures), name-short (l .1 .0) (c .before .before .bytes-at2 .ensures)))
-
-returns : tie.Need-returns
-returns c =
-    let k = c .before .before in
-    let a = k .before .before .before .before .before .before in
-    let s = a .args .sheet .now in
-    selected-plain (a .args .file .now) (a .args .by .voice) (a .pre .0 .opened) (a .args .by .fold) (sheetOf s .segments) (segmentRead s (a .args .left)) (segmentRead s (a .args .right)) _ _ (k .before .before .bytes-at .ensures) (k .before .bytes-at2 .ensures) _ (k .in-cluster .ensures) (not-true _ (c .before .if1 .taken)) (c .select-plain .ensures)
-
-find-pair-requires : tie.Need-find-pair-requires
-find-pair-requires c κs =
-    let a = c .before .before .before .before .before .before .before in
-    let l = a .pre .1 .1 .1 in
-    (a .pre .0, (name-short (l .0) (c .before .before .before .bytes-at .ensures), name-short (l .1 .0) (c .before .before .bytes-at2 .ensures)))
+find-tried-requires : tie.Need-find-tried-requires
+find-tried-requires c κs = search needs
 
 enum-known-e : tie.Need-enum-known-e
 enum-known-e c = search needs
@@ -41,38 +13,20 @@ enum-known-e c = search needs
 enum-told : tie.Need-enum-told
 enum-told c = search needs
 
-select-plain-requires-2 : tie.Need-select-plain-requires-2
-select-plain-requires-2 c κs =
-    let a = c .before .before .before .before .before .before .before .before .before .before in
-    let l = a .pre .1 .1 .1 in
-    (a .pre .0, (name-short (l .0) (c .before .before .before .before .before .before .bytes-at .ensures), name-short (l .1 .0) (c .before .before .before .before .before .bytes-at2 .ensures)))
+first-entry-requires : tie.Need-first-entry-requires
+first-entry-requires c κs = search needs
+
+returns : tie.Need-returns
+returns c =
+    let k = c .before .before .before in
+    selected-found _ _ (k .before .before .before .before .pre .0 .opened) _ _ _ (sym (k .find-tried .ensures) ∙ c .before .e .given .1)
 
 returns-2 : tie.Need-returns-2
 returns-2 c =
-    let k = c .before .before .before .before .before in
-    let a = k .before .before .before .before .before .before in
-    let s = a .args .sheet .now in
-    selected-found (a .args .file .now) (a .args .by .voice) (a .pre .0 .opened) (a .args .by .fold) (sheetOf s .segments) (segmentRead s (a .args .left)) (segmentRead s (a .args .right)) _ _ (k .before .before .bytes-at .ensures) (k .before .bytes-at2 .ensures) _ (k .in-cluster .ensures) (not-false _ (c .before .before .before .before .if1 .left)) (sym (c .before .before .before .find-pair .ensures) ∙ c .before .e .given .1)
-
-returns-3 : tie.Need-returns-3
-returns-3 c =
-    let k = c .before .before .before .before .before in
-    let a = k .before .before .before .before .before .before in
-    let s = a .args .sheet .now in
-    selected-missing (a .args .file .now) (a .args .by .voice) (a .pre .0 .opened) (a .args .by .fold) (sheetOf s .segments) (segmentRead s (a .args .left)) (segmentRead s (a .args .right)) _ _ (k .before .before .bytes-at .ensures) (k .before .bytes-at2 .ensures) _ (k .in-cluster .ensures) (not-false _ (c .before .before .before .before .if1 .left)) (sym (c .before .before .before .find-pair .ensures) ∙ c .before .enum-told .given .1) (c .select-plain2 .ensures)
+    let k = c .before .before .before in
+    selected-first _ _ (k .before .before .before .before .pre .0 .opened) _ _ _ (sym (k .find-tried .ensures) ∙ c .before .enum-told .given .1) (c .first-entry .ensures)
 
 pub select-spec : {M : Type 1} → statement M
 select-spec =
     tie.close
-    (tie.spec
-    bytes-at-requires
-    bytes-at-requires-2
-    in-cluster-requires
-    select-plain-requires
-    returns
-    find-pair-requires
-    enum-known-e
-    enum-told
-    select-plain-requires-2
-    returns-2
-    returns-3)
+    (tie.spec find-tried-requires enum-known-e enum-told first-entry-requires returns returns-2)

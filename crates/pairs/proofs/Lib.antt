@@ -1,0 +1,3 @@
+-- Laws about pairs' definitions.
+pub mod PairLaws
+pub mod Computed

@@ -1,0 +1,3 @@
+-- The root of pairs' definitions.
+pub mod Pairs
+pub mod Examples
