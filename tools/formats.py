@@ -190,10 +190,6 @@ class Voice:
         self.sizes = self.stored if sizes is None else list(sizes.data[: self.header.frames])
         self.entries = read_index(self.header, self.data, self.sections[b"dip.index"])
 
-    def found(self, segments, place, fold):
-        """The name that the pair of a segment, by its place from 0, and the next one finds, or None."""
-        return next((name for name in names_tried(segments, place, fold) if name in self.entries), None)
-
 
 def open_voice(data):
     """A voice that opens; 1 to 7 are the refusals."""
@@ -407,3 +403,8 @@ def names_tried(segments, place, fold):
     if left not in VOWELS and follower and folded(segments[follower - 1]) in CONSONANTS:
         yield left + b"_-_" + right
     yield left + b"-" + right
+
+
+def found_name(entries, segments, place, fold):
+    """The name among these that the pair of a segment, by its place from 0, and the next one finds, or None."""
+    return next((name for name in names_tried(segments, place, fold) if name in entries), None)

@@ -20,7 +20,7 @@ from pathlib import Path
 sys.path.insert(0, str(Path(__file__).resolve().parent.parent / "tools"))
 import cases
 from cases import EXAMPLES, NONE, REPO, Segment, Target, index_bytes, real, sheet, whole
-from formats import Header, Refused, number_of, open_voice, read_sheet, shown_name, voice_file
+from formats import Header, Refused, found_name, number_of, open_voice, read_sheet, shown_name, voice_file
 
 PLAYER = os.environ["PLAYER"]
 VALGRIND = ["valgrind", "--quiet", "--leak-check=full", "--error-exitcode=99"] if shutil.which("valgrind") else None
@@ -570,7 +570,7 @@ class Notes(InFolder):
         residuals = [bytes(size) for size in range(1, 2 * len(names) + 1)]
         entries = [(name, 2 * place, 1, 1) for place, name in enumerate(names)]
         data = voice_file(Header(), [[]] * len(residuals), residuals, entries)
-        voice, found = self.file("sizes.flv", data), open_voice(data).found
+        voice, names = self.file("sizes.flv", data), open_voice(data).entries
         draw, strict = random.Random(1), set()
         for _ in range(40):
             phones = [draw.choice([b"a", b"b", b"k", b"n", b"aa", b"ah"]) for _ in range(draw.choice([2, 3, 6]))]
@@ -581,7 +581,8 @@ class Notes(InFolder):
             right = sum(phones[i : i + 2] == [b"a", b"b"] for i in range(len(phones) - 1))
             missing = int(message.split("note: ")[1].split()[0]) if message else 0
             self.assertEqual(missing + right, first, segments)
-            self.assertEqual(missing, sum(found(segments, i, True) is None for i in range(len(phones) - 1)), segments)
+            found = [found_name(names, segments, place, True) for place in range(len(phones) - 1)]
+            self.assertEqual(missing, found.count(None), segments)
             done = run(voice, self.folder / "call.sht", "--join", "simple", "--fold", "--strict")
             self.assertEqual(done[:2], (1, b"") if missing else (0, text), segments)
             strict.add(done[0])

@@ -470,13 +470,13 @@ class Draw(unittest.TestCase):
     def test_simple_join(self):
         """Phones stand where the join puts them: the example has periods of 2 and 3 samples, and no times."""
         files = [(EXAMPLES / f"example.{kind}").read_bytes() for kind in ("flv", "sht")]
-        voice, read = formats.open_voice(files[0]), formats.read_sheet(files[1])
-        call = DRAW.Call(read, ["8000 2 5", "1 2 8 132", "2 3 0 -8 -132"], voice)
+        call = DRAW.Call(formats.read_sheet(files[1]), ["8000 2 5", "1 2 8 132", "2 3 0 -8 -132"], DRAW.Voice(files[0]))
         self.assertTrue(call.simple)
         self.assertEqual(call.phones, [("pau", 0, 2 / 8000), ("aa", 2 / 8000, 5 / 8000)])
         self.assertEqual([unit.name for unit in call.units], ["pau-aa"])
         self.assertEqual(len(self.drawn(call).findall(".//*[@class='box']")), 2)
-        self.assertFalse(DRAW.Call(read, ["8000 1 5", "1 5 0 0 0 0 0"], voice).simple)
+        other = DRAW.Call(formats.read_sheet(files[1]), ["8000 1 5", "1 5 0 0 0 0 0"], DRAW.Voice(files[0]))
+        self.assertFalse(other.simple)
 
     def test_ends(self):
         """A box for each phone as spoken, with the sample where it ends, and a line there through the samples."""
