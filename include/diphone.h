@@ -17,7 +17,7 @@
 #include <stddef.h>
 #include <stdint.h>
 
-#define DIPHONE_VERSION "1.4"
+#define DIPHONE_VERSION "1.5"
 
 #ifdef __cplusplus
 #define DIPHONE_RESTRICT
@@ -80,7 +80,12 @@ uint32_t diphone_open(const uint8_t *DIPHONE_RESTRICT voice, size_t voice_len,
  * no vowel and its follower is a consonant or a pause, then left-right. A pair that finds neither in
  * the index is spoken by the index's first entry in order; a strict call with such a pair is refused
  * with 16, in every join. A strict call that 16 does not refuse is in everything as one without
- * DIPHONE_STRICT. */
+ * DIPHONE_STRICT.
+ *
+ * The modified join alone reads where phones end. A pair has two target ends, one for each half:
+ * the end of its left phone, and the middle between the ends of both, (left + right) / 2. Either is
+ * a time in seconds and is multiplied by the rate, all in f32; it goes to the nearest sample, an
+ * exact half up, and is sample 0 below zero. A target end above 16,777,215 is refused with 11. */
 enum {
     DIPHONE_JOIN_NONE = 0,      /* no periods */
     DIPHONE_JOIN_SIMPLE = 1,    /* each period as long as it is stored */

@@ -1,5 +1,7 @@
 #include "report.h"
 
+#include "nearest.h"
+
 /* The report's line of a period. */
 struct line {
     uint32_t pair, half, first, size;
@@ -43,15 +45,13 @@ void print_report(FILE *stream, const struct speech *speech, const struct phones
     }
 }
 
-/* Where the sheet ends a phone, by the engine's rule for target ends: time by rate in f32, truncated, 0
-   below zero. What is above every number of 64 bits is the greatest. */
+/* Where the sheet ends a phone, by the engine's rule for target ends: time by rate in f32, to the nearest
+   sample. */
 static uint64_t sheet_end(const struct phone *phone, uint64_t rate)
 {
     float place = phone->end * (float)rate;
 
-    if (!(place > 0))
-        return 0;
-    return place < 18446744073709551616.0f ? (uint64_t)place : UINT64_MAX;
+    return nearest_sample(place);
 }
 
 /* Whether a phone, by its number from 1, goes on up to this period at least: the period belongs to half 1

@@ -1,7 +1,8 @@
-//! A call as document 01 words it, as far as its refusals 16 and 10 to 12
-//! reach: names, units, target ends and marks. The samples themselves come from
-//! the Rust.
+//! A call as document 01 words it, and document 02 its target ends, as far as
+//! its refusals 16 and 10 to 12 reach: names, units, target ends and marks. The
+//! samples themselves come from the Rust.
 
+use crate::ends;
 use crate::phoneset;
 use crate::refusal::Refusal;
 use crate::sheet::Sheet;
@@ -204,21 +205,19 @@ fn chosen<'v, 'a>(voice: &'v Voice<'a>, sheet: &Sheet, left: usize, fold: bool) 
 
 /// Two units for each adjacent pair of segments.
 pub fn units(voice: &Voice, sheet: &Sheet, fold: bool) -> Vec<Unit> {
-    let rate = voice.header.rate as f32;
+    let products = ends::products(sheet, voice.header.rate);
     let mut units = Vec::new();
-    for left in 0..sheet.segments.len().saturating_sub(1) {
+    for (left, products) in products.chunks(2).enumerate() {
         let entry = chosen(voice, sheet, left, fold);
-        let left_end = sheet.segments[left].end.as_f32();
-        let right_end = sheet.segments[left + 1].end.as_f32();
         units.push(Unit {
             first: entry.start,
             last: entry.middle(),
-            target_end: (left_end * rate) as usize,
+            target_end: ends::nearest(products[0]),
         });
         units.push(Unit {
             first: entry.middle(),
             last: entry.end(),
-            target_end: ((left_end + right_end) / 2.0 * rate) as usize,
+            target_end: ends::nearest(products[1]),
         });
     }
     units

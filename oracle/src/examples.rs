@@ -107,7 +107,9 @@ fn printed(report: &mut Report) {
 }
 
 fn speak_lines(voice: &DiphoneVoice, sheet: &Sheet) -> String {
-    let periods = reference::speak(voice, sheet, Settings::new(Join::Simple));
+    let settings = Settings::new(Join::Simple);
+    let filled = reference::fill(voice, sheet, settings);
+    let periods = reference::speak(voice, sheet, settings, &filled);
     lines::spoken(voice.sample_rate() as usize, &periods)
 }
 

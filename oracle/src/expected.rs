@@ -2,6 +2,7 @@
 //! by document 01.
 
 use crate::call::{self, Settings};
+use crate::departure::Departure;
 use crate::diphone::DiphoneVoice;
 use crate::dsp;
 use crate::lent::{Buffers, WIDTHS};
@@ -50,6 +51,7 @@ pub struct Spoken {
     pub periods: Vec<Vec<i16>>,
     pub lines: Vec<Line>,
     pub tally: Tally,
+    pub departure: Departure,
 }
 
 /// What a pull shows: its number, and every byte of its slice afterwards.
@@ -110,7 +112,8 @@ fn parsed(file: &[u8]) -> Box<DiphoneVoice> {
     }
 }
 
-/// The call as the Rust speaks it. Nothing where that would take long.
+/// The call as the Rust speaks it, in the modified join from rounded target
+/// ends. Nothing where that would take long.
 fn speak(
     file: &[u8],
     voice: &Voice,
@@ -118,20 +121,34 @@ fn speak(
     settings: Settings,
     marks: &[usize],
 ) -> Option<Spoken> {
+    let fitness = reference::fitness(voice, sheet, settings, marks);
+    if fitness == Fitness::TakesLong {
+        return None;
+    }
     let rust = parsed(file);
-    let periods = match reference::fitness(voice, sheet, settings, marks) {
-        Fitness::Fit => reference::speak(&rust, sheet, settings),
-        // Fewer than two segments: document 01 gives zero periods.
-        Fitness::MakesMarksWithoutUnits(_) => Vec::new(),
-        Fitness::TakesLong => return None,
-    };
     let filled = reference::fill(&rust, sheet, settings);
     assert_eq!(filled.marks, marks, "marks of the Rust and of document 01");
+    // If it is not fit: fewer than two segments, where document 01 gives zero
+    // periods.
+    let (periods, departure) = match fitness {
+        Fitness::Fit => {
+            let periods = reference::speak(&rust, sheet, settings, &filled);
+            let departure = Departure::of(&rust, sheet, settings, &filled, &periods);
+            (periods, departure)
+        }
+        _ => Default::default(),
+    };
     let taking = Taking::new(voice, &rust, &filled, settings.join);
-    Some(spoken(voice, &filled, periods, &taking))
+    Some(spoken(voice, &filled, periods, &taking, departure))
 }
 
-fn spoken(read: &Voice, filled: &Filled, periods: Vec<Vec<i16>>, taking: &Taking) -> Spoken {
+fn spoken(
+    read: &Voice,
+    filled: &Filled,
+    periods: Vec<Vec<i16>>,
+    taking: &Taking,
+    departure: Departure,
+) -> Spoken {
     let taken = &taking.expected;
     let residual = &filled.taken.residual;
     let lengths: Vec<usize> = periods.iter().map(Vec::len).collect();
@@ -166,6 +183,7 @@ fn spoken(read: &Voice, filled: &Filled, periods: Vec<Vec<i16>>, taking: &Taking
         periods,
         lines: lines(filled, taken),
         tally: taking.tally(filled),
+        departure,
     }
 }
 

@@ -1,6 +1,7 @@
 //! Inputs for `oracle floats`: places where rounding or a limit decides, then
 //! random ones.
 
+use crate::end_checks;
 use crate::rng::Rng;
 
 /// f64 bits for the conversion to f32: at least `count` of them.
@@ -129,6 +130,7 @@ pub fn edge_words(rng: &mut Rng) -> Vec<u32> {
         let multiple = rng.u32() << 14;
         all.extend([multiple, multiple.wrapping_sub(1), multiple.wrapping_add(1)]);
     }
+    all.extend(end_checks::words(rng));
     all
 }
 

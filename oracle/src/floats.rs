@@ -1,7 +1,9 @@
 //! `oracle floats`: the functions of libprobe.a beside Rust's own casts and
-//! operators. Results are compared by bits; any NaN equals any NaN.
+//! operators, and `f32_to_nearest` beside `ends::nearest`. Results are compared
+//! by bits; any NaN equals any NaN.
 
 use crate::args::Args;
+use crate::ends;
 use crate::float_inputs as inputs;
 use crate::probe::*;
 use crate::rng::Rng;
@@ -163,7 +165,7 @@ fn sweep(words: &Words, rust: impl Fn(u32) -> u64, archive: impl Fn(u32) -> u64)
 type Sweep = fn(&Words) -> Tally;
 
 /// The functions of one 32-bit word, or of the f32 with that word as its bits.
-const OF_WORD: [(&str, Sweep); 7] = [
+const OF_WORD: [(&str, Sweep); 8] = [
     ("f32_to_i16", |words| {
         sweep(
             words,
@@ -183,6 +185,13 @@ const OF_WORD: [(&str, Sweep); 7] = [
             words,
             |w| f(w) as usize as u64,
             |w| probe_f32_to_usize(f(w)) as u64,
+        )
+    }),
+    ("f32_to_nearest", |words| {
+        sweep(
+            words,
+            |w| ends::nearest(f(w)) as u64,
+            |w| probe_f32_to_nearest(f(w)) as u64,
         )
     }),
     ("f32_from_word", |words| {

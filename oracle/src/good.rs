@@ -2,11 +2,12 @@
 //! Rust under every setting, and extended.
 
 use crate::call::{self, Ending, Filter, Join, Settings, JOINS, NAMED};
+use crate::departure::{self, Departure};
 use crate::diphone::access;
 use crate::diphone::DiphoneVoice;
 use crate::dsp;
 use crate::gen::voices::{self, Extent, Vocabulary, VoiceSpec};
-use crate::gen::{empty_heads, shaped, sheets};
+use crate::gen::{empty_heads, shaped, sheets, target_ends};
 use crate::pairs;
 use crate::reference::{self, Fitness, Parsed};
 use crate::refusal::{shown, ByNumber, Refusal};
@@ -48,6 +49,7 @@ pub struct Counts {
     pub listed: [u64; 3],
     /// Calls not handed to the Rust: time cannot advance, too many marks, long.
     pub guarded: [u64; 3],
+    pub departure: departure::Counts,
 }
 
 /// One case: a voice, its sheets, an extension and longer sheets.
@@ -118,6 +120,27 @@ pub fn run_shaped(seed: u64, case: u64, report: &mut Report, counts: &mut Counts
             counts,
         };
         one.strict(&voice, &sheet);
+    }
+}
+
+/// A voice and an extension, a sheet with target ends of each manner in turn, and
+/// a longer one.
+pub fn run_ends(seed: u64, case: u64, report: &mut Report, counts: &mut Counts) {
+    let rng = &mut Rng::for_case(seed, 4_800_000 + case);
+    let (_, spec, first) = target_ends::numbered(rng, case);
+    let second = target_ends::longer(rng, &first, &spec);
+    let wider = voices::extension(rng, &spec);
+    let files = [&spec, &wider].map(|spec| voices::file(&spec.sections()));
+    let [Some(old), Some(new)] = [0, 1].map(|i| Opened::new(&files[i], case, report)) else {
+        return;
+    };
+    let mut one = Case {
+        case,
+        report,
+        counts,
+    };
+    for settings in Settings::loose() {
+        one.law(&old, &new, &first, &second, settings);
     }
 }
 
@@ -345,8 +368,8 @@ impl Case<'_> {
         self.run_rust(voice, sheet, settings, &marks)
     }
 
-    /// A call refused for a place too far must have one in the Rust too. Where
-    /// time cannot advance the Rust is not asked.
+    /// A call refused for a place too far must have one in the Rust too, or by a
+    /// rounded target end. Where time cannot advance the Rust is not asked.
     fn check_refused(
         &mut self,
         voice: &Opened,
@@ -363,7 +386,7 @@ impl Case<'_> {
         }
         if ending == Ending::Ends && refusal == Refusal::TooFar {
             let utt = reference::prepared(sheet, settings);
-            let units = access::select_units(&voice.rust, &utt);
+            let units = reference::units(&voice.rust, sheet, &utt);
             let marks = access::pitch_marks(&voice.rust, &utt);
             let ends = units.iter().map(|unit| unit.target_end);
             let far = ends.chain(marks).any(|place| place > call::MAX_PLACE);
@@ -382,12 +405,17 @@ impl Case<'_> {
         marks: &[usize],
     ) -> Option<Vec<Vec<i16>>> {
         let case = self.case;
-        let periods = reference::quietly(|| reference::speak(&voice.rust, sheet, settings));
-        self.report.check(periods.is_some(), || {
-            format!("case {case}: {settings:?}: the Rust panics on {sheet:?}")
+        let spoken = reference::quietly(|| {
+            let filled = reference::fill(&voice.rust, sheet, settings);
+            let periods = reference::speak(&voice.rust, sheet, settings, &filled);
+            (filled, periods)
         });
-        let periods = periods?;
-        let filled = reference::fill(&voice.rust, sheet, settings);
+        self.report.check(spoken.is_some(), || {
+            format!("case {case}: {settings:?}: a panic, in the Rust or around it, on {sheet:?}")
+        });
+        let (filled, periods) = spoken?;
+        let departure = Departure::of(&voice.rust, sheet, settings, &filled, &periods);
+        self.counts.departure.add(&departure);
         let taking = Taking::new(&voice.read, &voice.rust, &filled, settings.join);
         // What is filled does not depend on the filter.
         if settings.filter_in() == Filter::Fixed {

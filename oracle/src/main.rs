@@ -13,8 +13,11 @@ mod call;
 mod calls;
 #[cfg(feature = "probe")]
 mod codecs;
+mod departure;
 #[cfg(any(feature = "calls", all(feature = "diphone_c", feature = "probe_call")))]
 mod diphone_c;
+mod end_checks;
+mod ends;
 mod examples;
 mod expected;
 #[cfg(feature = "probe")]

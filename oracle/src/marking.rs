@@ -4,8 +4,9 @@
 use crate::args::Args;
 use crate::call::{self, Ending, Join, Settings};
 use crate::diphone::access;
+use crate::ends;
 use crate::gen::voices::{self, Extent};
-use crate::gen::{damaged_calls, damaged_sheets, sheets};
+use crate::gen::{damaged_calls, damaged_sheets, end_calls, sheets, target_ends};
 use crate::probe_call;
 use crate::reference::{self, Parsed};
 use crate::refusal::Refusal;
@@ -18,6 +19,9 @@ use crate::voicefile;
 const CASES: u64 = 2_000;
 const SHEETS_PER_VOICE: usize = 3;
 const DAMAGED_SHEETS: u64 = 40;
+
+/// Sheets with target ends of each manner in turn.
+const ENDS: u64 = 600;
 
 /// A buffer for all marks that a call may have.
 const ROOM: usize = 4 * call::MAX_MARKS + 8;
@@ -33,6 +37,10 @@ struct Counts {
     not_asked: u64,
     units: u64,
     natural: u64,
+    /// Lists of units that are the Rust's own: those with whole products, and the
+    /// others. Then those with ends that are not its own, and these ends.
+    own: [u64; 2],
+    rounded: [u64; 2],
 }
 
 pub fn run(args: &Args) -> bool {
@@ -49,7 +57,13 @@ pub fn run(args: &Args) -> bool {
             check(&file, &sheet::write(&sheet), &mut report, &mut counts);
         }
     }
-    for call in damaged_calls::all() {
+    for case in 0..ENDS {
+        let rng = &mut Rng::for_case(args.seed, 7_500_000 + case);
+        let (_, spec, sheet) = target_ends::numbered(rng, case);
+        let file = voices::file(&spec.sections());
+        check(&file, &sheet::write(&sheet), &mut report, &mut counts);
+    }
+    for call in [damaged_calls::all(), end_calls::all()].concat() {
         check(&call.voice, &call.sheet, &mut report, &mut counts);
     }
     for case in 0..DAMAGED_SHEETS {
@@ -63,6 +77,10 @@ pub fn run(args: &Args) -> bool {
     for limit in damaged_sheets::limits() {
         check_read(&limit.bytes, limit.label, &mut report, &mut counts);
     }
+    let met = [counts.own, counts.rounded].concat();
+    report.check(!met.contains(&0), || {
+        format!("units by their ends: {met:?}")
+    });
     print(args.seed, cases, &report, &counts);
     report.failures == 0
 }
@@ -152,8 +170,8 @@ fn beside_rust(
     report.equal(&theirs, &found, || "the Rust's marks".to_string());
 }
 
-/// The units, folded and not, are the Rust's; one unit more than there is room
-/// for is 13.
+/// The units, folded and not, are the Rust's, where an end moves with rounded
+/// ends; one unit more than there is room for is 13.
 fn check_units(
     file: &[u8],
     sheet: &Sheet,
@@ -168,17 +186,37 @@ fn check_units(
         let mut settings = Settings::new(Join::Modified);
         settings.fold = fold;
         let utt = reference::prepared(sheet, settings);
-        let theirs: Vec<[usize; 3]> = access::select_units(&rust, &utt)
+        let departs = reference::departs(sheet, rust.sample_rate(), settings);
+        let theirs = match departs {
+            true => reference::units(&rust, sheet, &utt),
+            false => access::select_units(&rust, &utt),
+        };
+        let theirs: Vec<[usize; 3]> = theirs
             .iter()
             .map(|unit| [unit.first_period, unit.last_period, unit.target_end])
             .collect();
         let room = theirs.len();
         counts.units += room as u64;
+        count_ends(&ends::products(sheet, rust.sample_rate()), counts);
         let ours = probe_call::units(file, bytes, fold, room);
         report.equal(&Ok(theirs), &ours, || "units".to_string());
         if room > 0 {
             let short = probe_call::units(file, bytes, fold, room - 1);
             report.equal(&Err(SHORT_BUFFER as usize), &short, || "units, one short".to_string());
+        }
+    }
+}
+
+/// Counts a list of units by the products of their ends.
+fn count_ends(products: &[f32], counts: &mut Counts) {
+    let is_whole = products.iter().all(|product| ends::is_whole(*product));
+    let moved = products.iter().filter(|product| ends::is_moved(**product));
+    match moved.count() {
+        _ if products.is_empty() => {}
+        0 => counts.own[usize::from(!is_whole)] += 1,
+        moved => {
+            counts.rounded[0] += 1;
+            counts.rounded[1] += moved as u64;
         }
     }
 }
@@ -217,6 +255,11 @@ fn print(seed: u64, cases: u64, report: &Report, counts: &Counts) {
     println!(
         "  sheets: {}, marks: {}, units: {}, marks of the simple join: {}",
         counts.sheets, counts.marks, counts.units, counts.natural
+    );
+    let ([whole, other], [rounded, ends]) = (counts.own, counts.rounded);
+    println!(
+        "  lists of units: {whole} the Rust's own with whole products, {other} its own with \
+         others, {rounded} with rounded ends, {ends} of them not its own"
     );
     let answers: Vec<String> = counts
         .answers

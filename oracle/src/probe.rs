@@ -7,6 +7,7 @@ unsafe extern "C" {
     pub safe fn probe_f32_to_i32(x: f32) -> i32;
     pub safe fn probe_f32_to_usize(x: f32) -> usize;
     pub safe fn probe_f64_to_usize(x: f64) -> usize;
+    pub safe fn probe_f32_to_nearest(x: f32) -> usize;
     pub safe fn probe_f32_from_word(word: u32) -> f32;
     pub safe fn probe_f32_to_word(x: f32) -> u32;
     pub safe fn probe_u32_to_f32(n: u32) -> f32;

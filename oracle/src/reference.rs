@@ -4,7 +4,8 @@ use crate::call::{ending, Ending, Filter, Join, Settings};
 use crate::data::Container;
 use crate::diphone::access::{self, Excitation};
 use crate::diphone::{synthesise_streaming, DiphoneVoice};
-use crate::dsp::Flow;
+use crate::dsp::{self, Flow};
+use crate::ends;
 use crate::sheet::{Sheet, Value};
 use crate::utterance::{ItemId, Utterance};
 use crate::voice::{JoinType, ResynthType, VoiceParams};
@@ -138,11 +139,63 @@ pub fn params(voice: &DiphoneVoice, settings: Settings) -> VoiceParams {
     }
 }
 
-/// The reference answer: the samples of each period.
-pub fn speak(voice: &DiphoneVoice, sheet: &Sheet, settings: Settings) -> Vec<Vec<i16>> {
+/// The reference answer: the samples of each period, of a call as it is filled.
+/// The Rust's whole own way gives it, nothing replaced, where no target end is
+/// rounded to another than the Rust's; in the modified join its own filter over
+/// what is filled must then give the same. Elsewhere that alone gives it.
+pub fn speak(
+    voice: &DiphoneVoice,
+    sheet: &Sheet,
+    settings: Settings,
+    filled: &Filled,
+) -> Vec<Vec<i16>> {
+    if settings.join != Join::Modified {
+        return speak_whole(voice, sheet, settings);
+    }
+    let periods = filtered(voice, &filled.taken, settings.filter_in());
+    if !departs(sheet, voice.sample_rate(), settings) {
+        let whole = speak_whole(voice, sheet, settings);
+        assert!(whole == periods, "the Rust's whole way and its stages");
+    }
+    periods
+}
+
+/// Whether some target end that the call reads is not the Rust's.
+pub fn departs(sheet: &Sheet, rate: u32, settings: Settings) -> bool {
+    let products = ends::products(sheet, rate);
+    settings.join == Join::Modified && products.into_iter().any(ends::is_moved)
+}
+
+/// The samples of each period by the Rust's whole own way.
+fn speak_whole(voice: &DiphoneVoice, sheet: &Sheet, settings: Settings) -> Vec<Vec<i16>> {
     let utt = prepared(sheet, settings);
+    collected(|sink| synthesise_streaming(voice, &utt, &params(voice, settings), sink))
+}
+
+/// The Rust's own filter over an excitation, period by period.
+pub fn filtered(voice: &DiphoneVoice, taken: &Excitation, filter: Filter) -> Vec<Vec<i16>> {
+    let header = access::header(voice);
+    let resynthesise = match filter {
+        Filter::Fixed => dsp::lpc_resynthesise_streaming,
+        Filter::Float => dsp::lpc_resynthesise_float_streaming,
+    };
+    collected(|sink| {
+        resynthesise(
+            &taken.rows,
+            &taken.sizes,
+            &taken.residual,
+            header.coeff_min,
+            header.coeff_range,
+            header.order,
+            sink,
+        )
+    })
+}
+
+/// The periods that something hands out.
+fn collected(run: impl FnOnce(&mut dyn FnMut(&[i16]) -> Flow)) -> Vec<Vec<i16>> {
     let mut periods = Vec::new();
-    synthesise_streaming(voice, &utt, &params(voice, settings), &mut |period| {
+    run(&mut |period| {
         periods.push(period.to_vec());
         Flow::Continue
     });
@@ -157,16 +210,49 @@ pub struct Filled {
     pub taken: Excitation,
 }
 
-/// The Rust's own steps up to the excitation.
+/// The Rust's own steps up to the excitation, in the modified join from rounded
+/// target ends.
 pub fn fill(voice: &DiphoneVoice, sheet: &Sheet, settings: Settings) -> Filled {
-    if settings.join == Join::None || sheet.segments.len() < 2 {
+    let utt = prepared(sheet, settings);
+    let units = match settings.join {
+        Join::Modified => units(voice, sheet, &utt),
+        _ => access::select_units(voice, &utt),
+    };
+    filled(voice, &utt, settings.join, units)
+}
+
+/// The same steps from the Rust's own target ends.
+pub fn fill_own(voice: &DiphoneVoice, sheet: &Sheet, settings: Settings) -> Filled {
+    let utt = prepared(sheet, settings);
+    let units = access::select_units(voice, &utt);
+    filled(voice, &utt, settings.join, units)
+}
+
+/// The Rust's units with rounded target ends. Its own must be the products of
+/// these, truncated.
+pub fn units(voice: &DiphoneVoice, sheet: &Sheet, utt: &Utterance) -> Vec<access::PlainUnit> {
+    let mut units = access::select_units(voice, utt);
+    let products = ends::products(sheet, voice.sample_rate());
+    assert_eq!(units.len(), products.len(), "units and target ends");
+    for (unit, product) in units.iter_mut().zip(products) {
+        assert_eq!(unit.target_end, product as usize, "the Rust's target end");
+        unit.target_end = ends::nearest(product);
+    }
+    units
+}
+
+fn filled(
+    voice: &DiphoneVoice,
+    utt: &Utterance,
+    join: Join,
+    mut units: Vec<access::PlainUnit>,
+) -> Filled {
+    if join == Join::None || units.is_empty() {
         return Filled::default();
     }
-    let utt = prepared(sheet, settings);
-    let mut units = access::select_units(voice, &utt);
-    let marks = match settings.join {
+    let marks = match join {
         Join::Simple => access::natural_pitch_marks(voice, &mut units),
-        _ => access::pitch_marks(voice, &utt),
+        _ => access::pitch_marks(voice, utt),
     };
     let taken = match marks.len() {
         0 | 1 => Excitation::default(),

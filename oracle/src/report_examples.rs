@@ -17,6 +17,7 @@ pub fn run(report: &mut Report) {
     printed(report);
     empty_heads(report);
     ends(report);
+    rounded_ends(report);
     without_lines(report);
     wrong_lines(report);
     falls(report);
@@ -277,6 +278,38 @@ fn ends(report: &mut Report) {
     call(&[0.02, 0.08, 0.0]).must_show(&lines, tally(1, 0), "ends that fall", report);
     call(&[0.02, 0.03]).must_show(&lines[..1], tally(1, 3), "marks left over", report);
     call(&[0.0, 0.0]).must_show(&[], tally(2, 4), "no mark taken", report);
+}
+
+/// Marks 128, 256, 384 and 512, and target ends near them: exact halves, one f32
+/// below a half, and below zero.
+fn rounded_ends(report: &mut Report) {
+    let half = 255.5f32;
+    let lines = [[1, 1, 0, 128], [1, 1, 128, 128], [1, 2, 256, 128]];
+    // The products of left and right end; that of the middle is between them.
+    let cases = [
+        ([half, 511.5], &lines[..], 0, 1),
+        ([half, half], &lines[..2], 1, 2),
+        ([half.next_down(); 2], &lines[..1], 1, 3),
+        ([half.next_up(); 2], &lines[..2], 1, 2),
+        ([-0.5, -0.5], &[], 2, 4),
+        ([-0.5, 255.5], &[[1, 2, 0, 128]], 1, 3),
+    ];
+    for (products, lines, idle, left_over) in cases {
+        let call = Example {
+            voice: two_periods(8192),
+            sheet: with_marks(named(
+                &["pau", "aa"],
+                &products.map(|product| product / 8192.0),
+            )),
+            join: Join::Modified,
+        };
+        let tally = Tally {
+            idle,
+            left_over,
+            ..Tally::default()
+        };
+        call.must_show(lines, tally, "rounded ends", report);
+    }
 }
 
 /// Join none, one segment, one mark.

@@ -3,11 +3,12 @@
 
 use crate::args::Args;
 use crate::call::{self, Settings, JOINS, NAMED};
+use crate::end_checks;
 use crate::examples;
 use crate::expected::{self, Given, Most, SHORT_BUFFER};
 use crate::gen::damaged_calls::{self, LabelledCall};
 use crate::gen::damaged_voices::{self, DamagedVoice, InRust};
-use crate::gen::{damaged_sheets, shaped, sheets, strict_calls, voices, Labelled};
+use crate::gen::{damaged_sheets, end_calls, shaped, sheets, strict_calls, voices, Labelled};
 use crate::good;
 use crate::reference::{self, Fitness, Parsed};
 use crate::refusal::{numbered, shown, ByNumber, Refusal};
@@ -26,6 +27,9 @@ const EMPTY_HEADS: u64 = 40;
 
 /// Voices shaped to what the pairs of a sheet find.
 const SHAPED: u64 = 120;
+
+/// Voices with sheets whose target ends are of each manner in turn.
+const ENDS: u64 = 72;
 
 /// Random voices and sheets that are damaged in every way.
 const DAMAGED_VOICES: u64 = 12;
@@ -53,6 +57,7 @@ pub fn run(args: &Args) -> bool {
     let mut good_counts = good::Counts::default();
     examples::run(&mut report);
     report_examples::run(&mut report);
+    end_checks::run(args.seed, &mut report);
     for case in 0..args.count.unwrap_or(CASES) {
         good::run(args.seed, case, &mut report, &mut good_counts);
     }
@@ -62,10 +67,14 @@ pub fn run(args: &Args) -> bool {
     for case in 0..SHAPED {
         good::run_shaped(args.seed, case, &mut report, &mut good_counts);
     }
+    for case in 0..ENDS {
+        good::run_ends(args.seed, case, &mut report, &mut good_counts);
+    }
     check_voices(args.seed, &mut report, &mut counts);
     check_sheets(args.seed, &mut report, &mut counts);
     check_calls(&mut report, &mut counts);
     check_strict(&mut report, &mut counts);
+    check_ends(&mut report, &mut counts, &mut good_counts);
     check_reached(&mut report, &counts.damages, &good_counts);
     print(args.seed, &report, &counts, &good_counts);
     report.failures == 0
@@ -174,6 +183,18 @@ fn check_strict(report: &mut Report, counts: &mut Counts) {
     }
 }
 
+/// Calls with target ends by their products get their labels; those that are
+/// spoken are.
+fn check_ends(report: &mut Report, counts: &mut Counts, good: &mut good::Counts) {
+    for case in end_calls::all() {
+        check_call(&case, report, counts);
+        match expected::given(&case.voice, &case.sheet, case.settings, Most::ANY) {
+            Some(Given::Spoken(spoken)) => good.departure.add(&spoken.departure),
+            _ => report.check(case.label.is_some(), || format!("{}: given", case.reason)),
+        }
+    }
+}
+
 /// The strict call with no name in its voice: refused with 16 if it has a pair
 /// and its files are good.
 fn without_names(call: LabelledCall) -> LabelledCall {
@@ -212,8 +233,9 @@ fn run_accepted(case: &LabelledCall, report: &mut Report) -> bool {
     }
     let spoken = match reference::parse(&case.voice) {
         Parsed::Voice(rust) => reference::quietly(|| {
-            reference::speak(&rust, &sheet, case.settings);
-            reference::fill(&rust, &sheet, case.settings).marks
+            let filled = reference::fill(&rust, &sheet, case.settings);
+            reference::speak(&rust, &sheet, case.settings, &filled);
+            filled.marks
         }),
         _ => None,
     };
@@ -234,6 +256,7 @@ fn check_reached(report: &mut Report, damages: &ByNumber, good: &good::Counts) {
     report.check(!met.contains(&0), || {
         format!("the list, pairs, strict: {met:?}")
     });
+    good.departure.check_reached(report);
 }
 
 fn print(seed: u64, report: &Report, counts: &Counts, good: &good::Counts) {
@@ -311,6 +334,7 @@ fn print_calls(good: &good::Counts) {
     println!(
         "  simple join: {periods} periods on the list in {calls} calls, {rows} rows not the Rust's"
     );
+    good.departure.print();
 }
 
 /// Those that are refused.

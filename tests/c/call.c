@@ -1,6 +1,6 @@
 /* Makes document 01's example call through the C interface: what it needs, its plan, its pulls, its
- * report; then calls with empty periods, calls that name no filter, strict calls, and calls and pulls that
- * are refused. Ends with 0 if all is as it should be. */
+ * report; then calls with empty periods, calls whose phones end between two samples, calls that name no
+ * filter, strict calls, and calls and pulls that are refused. Ends with 0 if all is as it should be. */
 #define TEST "call"
 #include "example.h"
 
@@ -56,14 +56,25 @@ static void example_sheet(void)
 }
 
 /* The first of two targets is at 0, both have floats by their bits. */
-static void two_targets(uint32_t first_f0, uint32_t pos, uint32_t f0)
+static void add_targets(uint32_t first_f0, uint32_t pos, uint32_t f0)
 {
-    segments(2, 0);
     sheet_bytes("\x02", 1);
     value(2, 0);
     value(1, first_f0);
     value(1, pos);
     value(1, f0);
+}
+
+static void two_targets(uint32_t first_f0, uint32_t pos, uint32_t f0)
+{
+    segments(2, 0);
+    add_targets(first_f0, pos, f0);
+}
+
+/* Document 01's targets (0, 64), (0.0625, 64), which give the marks 125, 250, 375 and 500. */
+static void add_example_targets(void)
+{
+    add_targets(0x42800000, 0x3D800000, 0x42800000);
 }
 
 /* ---- lent buffers */
@@ -322,7 +333,8 @@ static void empty_reports(void)
     sheet_length = 0;
     sheet_bytes("\x01\x01n\x02\x00\x00", 6);
     untouched_report(SIMPLE | FIXED, 0, 0, "one segment, no line");
-    two_targets(0x42800000, 0x3D800000, 0x42800000);
+    segments(2, 0);
+    add_example_targets();
     untouched_report(MODIFIED | FIXED, 0, 0, "marks past the target ends, no line");
 }
 
@@ -332,9 +344,7 @@ static void modified_report(void)
     static const uint32_t numbers[8] = {1, 1, 0, 125, 1, 1, 125, 125};
 
     segments(1, 0x3D000000);
-    sheet_bytes("\x02\x02\x01\x00\x00\x80\x42", 7);
-    value(1, 0x3D800000);
-    value(1, 0x42800000);
+    add_example_targets();
     for (uint32_t join = MODIFIED; join <= 3; join += 1) {
         expect(report(join, 32) == 0, "a modified join is reported");
         has_lines(2, numbers, "the half that took the marks");
@@ -572,6 +582,87 @@ static void alike(void)
             for (uint32_t filter = UNNAMED; filter <= FILTER_BITS; filter += FIXED)
                 strict_call(join | fold | filter);
         }
+}
+
+/* ---- ends between two samples, in the modified join */
+
+/* Where pau and aa end, in seconds; then which of the marks 125 and 250 are taken, by the half that does. */
+struct ended {
+    const char *what;
+    float left, right;
+    uint32_t periods, halves[2];
+};
+
+static void ended_sheet(float left, float right)
+{
+    sheet_length = 0;
+    sheet_bytes("\x02\x03pau\x01", 6);
+    sheet_bytes(&left, 4);
+    sheet_bytes("\x00\x02"
+                "aa\x01",
+                5);
+    sheet_bytes(&right, 4);
+    sheet_bytes("\x00", 1);
+    add_example_targets();
+}
+
+/* What a call needs, gives and reports. */
+static void ended_call(const struct ended *ended)
+{
+    uint32_t periods = ended->periods, numbers[8];
+
+    ended_sheet(ended->left, ended->right);
+    exact(MODIFIED);
+    expect(six(need, 1, 4, periods, 0, 125 * periods, 0), ended->what);
+    expect(plan(MODIFIED | FIXED) == 0, ended->what);
+    expect(six(lent[SUMMARY], 8000, periods, 125 * periods, 4, 0, 1), ended->what);
+    for (uint32_t i = 0; i < periods; i += 1) {
+        uint32_t line[4] = {1, ended->halves[i], 125 * i, 125};
+        memcpy(numbers + 4 * i, line, sizeof line);
+        expect(u32_at(SIZES, 4 * i) == 125, ended->what);
+    }
+    past(SIZES, 4 * periods);
+    past(EXCITATION, 125 * periods);
+    expect(report(MODIFIED, periods * DIPHONE_REPORT_LINE_BYTES) == 0, ended->what);
+    has_lines(periods, numbers, ended->what);
+}
+
+/* To the nearest sample, a half going up, 0 below zero: the end of pau, and the middle between both ends. */
+static void ended_calls(void)
+{
+    static const struct ended all[] = {
+        {"249.5 and 249.5", 0.0311875f, 0.0311875f, 2, {1, 1}},
+        {"both just below", 0.031187499f, 0.031187499f, 1, {1}},
+        {"125 and 249.5", 0.015625f, 0.04675f, 2, {1, 2}},
+        {"125 and just below", 0.015625f, 0.046749994f, 1, {1}},
+        {"124.5 and 250", 0.0155625f, 0.0469375f, 2, {1, 2}},
+        {"just below 124.5, and 249.75", 0.015562499f, 0.046875f, 2, {2, 2}},
+        {"-125 and 124.5", -0.015625f, 0.04675f, 1, {2}},
+        {"-125 and just below", -0.015625f, 0.046749994f, 0, {0}},
+        {"-0.25 and 124.875", -0.00003125f, 0.03125f, 1, {2}},
+    };
+
+    for (size_t i = 0; i < sizeof all / sizeof *all; i += 1)
+        ended_call(&all[i]);
+}
+
+/* Ends on a sample and half a sample before it, where the marks 125 and 250 stand: all that is answered and
+ * left is the same. The simple join reads no end: it gives document 01's call. */
+static void between_samples(void)
+{
+    for (uint32_t filter = UNNAMED; filter <= FILTER_BITS; filter += FIXED) {
+        ended_sheet(0.03125f, 0.03125f);
+        exact(MODIFIED);
+        take_all(MODIFIED | filter, said[0]);
+        ended_sheet(0.0311875f, 0.0311875f);
+        take_all(MODIFIED | filter, said[1]);
+        expect(memcmp(said[0], said[1], sizeof said[0]) == 0, "249.5 is as 250");
+        exact(SIMPLE);
+        take_all(SIMPLE | filter, said[0]);
+        example_sheet();
+        take_all(SIMPLE | filter, said[1]);
+        expect(memcmp(said[0], said[1], sizeof said[0]) == 0, "a simple join reads no end");
+    }
 }
 
 /* ---- refused calls */
@@ -815,10 +906,11 @@ static void no_join(void)
     example_sheet();
 }
 
-/* Document 01's marks: rate 8000, targets (0, 64), (0.0625, 64). */
+/* Document 01's marks, at rate 8000. */
 static void four_marks(void)
 {
-    two_targets(0x42800000, 0x3D800000, 0x42800000);
+    segments(2, 0);
+    add_example_targets();
     exact(UINT32_MAX);
     expect(plan(UINT32_MAX) == 0, "3 is the modified join too, bits from 6 on mean nothing");
     expect(six(lent[SUMMARY], 8000, 0, 0, 4, 0, 1) && u32_at(STATE, 0) == 1, "every bit: modified, float");
@@ -920,6 +1012,8 @@ int main(void)
     empty_reports();
     modified_report();
     alike();
+    ended_calls();
+    between_samples();
     no_join();
     four_marks();
     g721();

@@ -15,11 +15,12 @@ import sys
 import tempfile
 import unittest
 import wave
+from fractions import Fraction
 from pathlib import Path
 
 sys.path.insert(0, str(Path(__file__).resolve().parent.parent / "tools"))
 import cases
-from cases import EXAMPLES, NONE, REPO, Segment, Target, index_bytes, real, sheet, whole
+from cases import EXAMPLES, NONE, REPO, Segment, Target, bits, index_bytes, real, sheet, whole
 from formats import Header, Refused, found_name, number_of, open_voice, read_sheet, shown_name, voice_file
 
 PLAYER = os.environ["PLAYER"]
@@ -190,10 +191,14 @@ def as_f32(number):
         return math.copysign(math.inf, number)
 
 
+def nearest(place):
+    """The whole number nearest to a float, an exact half going up; 0 below zero, at most what 64 bits hold."""
+    return 0 if place <= 0 else 2**64 - 1 if place >= 2**64 else (2 * Fraction(place) + 1) // 2
+
+
 def samples_at(rate, time):
-    """A target end: a time in samples, truncated, 0 below zero, at most what 64 bits hold."""
-    place = as_f32(time * rate)
-    return 0 if place <= 0 else 2**64 - 1 if place >= 2**64 else int(place)
+    """A target end: a time in samples, in f32, then to the nearest."""
+    return nearest(as_f32(time * rate))
 
 
 def modified_ends(rate, segments):
@@ -270,6 +275,29 @@ def random_time(draw, most):
 def random_segments(draw, most):
     return [Segment(draw.choice([b"a", b"b"]), random_time(draw, most)) for _ in range(draw.randrange(2, 9))]
 
+
+# Floats by their bits, and the whole numbers nearest to them.
+PLACES = {
+    0x00000001: 0,
+    0x3EFFFFFF: 0,  # 0.49999997
+    0x3F000000: 1,  # 0.5
+    0x3F7FFFFF: 1,
+    0x3FBFFFFF: 1,  # 1.4999999
+    0x3FC00000: 2,  # 1.5
+    0x40200000: 3,  # 2.5
+    0x4AFFFFFD: 8388607,  # 8388606.5
+    0x4AFFFFFF: 8388608,  # 8388607.5
+    0x4B000001: 8388609,
+    0x4B7FFFFF: 16777215,
+    0x5F7FFFFF: 2**64 - 2**40,
+    0x5F800000: 2**64 - 1,
+    0x7F7FFFFF: 2**64 - 1,
+    0x80000000: 0,
+    0xBE800000: 0,  # -0.25
+    0xBF000000: 0,  # -0.5
+    0xBFC00000: 0,
+    0xFF7FFFFF: 0,
+}
 
 # Halves of one pair or two, with periods of no sample at the head of a unit; then the pair and half of each period, as
 # two digits, and the sample where each phone ends.
@@ -424,24 +452,134 @@ class Report(InFolder):
             self.assertIn("player: note: the call is empty: ", message)
             self.assertEqual(run(YARD[0], call, "--ends", *words), (0, ends, message))
 
+    def sheet_ends(self, voice, ends):
+        """The samples where the sheet ends phones, as the player prints them in the simple join."""
+        call = self.file("call.sht", sheet([Segment(b"a", end) for end in ends]))
+        return [int(line.split()[2]) for line in run(voice, call, "--ends", "--join=simple")[1].splitlines()]
+
     def test_sheet_ends(self):
-        """By the engine's rule for target ends, in the simple join too: f32, truncated, 0 below zero."""
+        """By the engine's rule for target ends, in the simple join too: f32, to the nearest, 0 below zero."""
         times = {
             NONE: 0,
             whole(-3): 0,
             real(-0.5): 0,
+            real(-3e38): 0,  # times the rate minus infinity
             whole(3): 24000,
             whole(2**31 - 1): 17179869184000,
-            real(0.0001249): 0,
+            real(0.0000624): 0,
+            real(0.0001249): 1,
             real(0.7): 5600,  # 0.7 is rounded down, and the product up again
             real(0.19): 1520,
-            real(1e30): samples_at(8000, as_f32(1e30)),
+            real(0.455): 3640,  # the product is below it
+            real(1e30): 2**64 - 1,
             real(3e38): 2**64 - 1,
         }
-        call = self.file("call.sht", sheet([Segment(b"n", time) for time in times]))
-        lines = run(YARD[0], call, "--ends", "--join=simple")[1].splitlines()
-        self.assertEqual([int(line.split()[2]) for line in lines], list(times.values()))
-        self.assertEqual(samples_at(8000, as_f32(1e30)), 2**64 - 1)
+        self.assertEqual(self.sheet_ends(YARD[0], times), list(times.values()))
+        self.assertEqual([samples_at(8000, number_of(time)) for time in times], list(times.values()))
+
+    def test_places(self):
+        """At a rate of 1 an end is its own product: the floats at which rounding goes wrong, then many more."""
+        voice = self.file("one.flv", voice_of_halves(1))
+        ends = [bits(word) for word in PLACES]
+        self.assertEqual(self.sheet_ends(voice, ends), list(PLACES.values()))
+        self.assertEqual([nearest(number_of(end)) for end in ends], list(PLACES.values()))
+        draw = random.Random(5)
+        ties = [draw.randrange(2 ** draw.randrange(1, 23)) + 0.5 for _ in range(1000)]
+        words = [real(tie)[1] + step for tie in ties for step in (-1, 0, 1)]
+        words += [draw.randrange(0x3D000000, 0x60000000) for _ in range(1000)]
+        ends = [bits(word) for word in words]
+        self.assertEqual(self.sheet_ends(voice, ends), [nearest(number_of(end)) for end in ends])
+
+    def test_rounded_ends(self):
+        """At a rate of 1, with a mark at each of 1 to 5: the pair and half of each period, by the ends of its phones."""
+        voice = self.file("one.flv", voice_of_halves(1))
+        below = struct.unpack("<f", struct.pack("<I", 0x401FFFFF))[0]  # the last float below 2.5
+        for ends, units in {
+            (0.5, 0.5): [11],
+            (as_f32(0.49999997), as_f32(0.49999997)): [],
+            (2.5, 2.5): [11, 11, 11],
+            (below, below): [11, 11],
+            (1, 4): [11, 12, 12],  # the middle is 2.5
+            (1, 3.9999998): [11, 12, 12],  # so it is in f32
+            (1, 3.9999995): [11, 12],
+            (2.5, 4): [11, 11, 11],  # the middle is 3.25
+            (1.5, 3.5): [11, 11, 12],
+            (2.5, -10): [11, 11, 11],
+            (-0.5, 1.5): [12],
+            (-0.5, 1.25): [],
+            (1.25, 2.25, 3.75): [11, 12, 22],  # the middles are 1.75 and 3
+            (1.5, 2.5, 4.5): [11, 11, 21, 22],  # the middles are 2 and 3.5
+        }.items():
+            segments = [Segment(name, real(end)) for name, end in zip((b"a", b"b", b"a"), ends)]
+            call = self.file("call.sht", sheet(segments, [Target(NONE, whole(1)), Target(whole(5), whole(1))]))
+            lines = run(voice, call, "--report")[1].splitlines()
+            self.assertEqual([int(b"".join(line.split()[1:3])) for line in lines], units, ends)
+            self.assertEqual(run(voice, call)[1].splitlines()[0], b"1 %d %d" % (len(units), len(units)), ends)
+            self.assertEqual(self.check(voice, call), len(units), ends)
+
+    def test_late_ends(self):
+        """At a rate of 1, with marks at 1, 2 and about 2^23, where a float has no half: how many are taken."""
+        voice = self.file("one.flv", voice_of_halves(1))
+        for f0, mark, counts in [
+            (0x34000002, 8388608, {8388607: 2, 8388607.5: 3, 8388608: 3}),
+            (0x34000000, 8388610, {8388608: 2, 8388609: 2, 8388610: 3}),
+        ]:
+            pitches = whole(1), whole(1), bits(f0), bits(f0)
+            targets = [Target(whole(place), pitch) for place, pitch in enumerate(pitches)]
+            for end, count in counts.items():
+                call = self.file("call.sht", sheet([Segment(b"a", real(end))] * 2, targets))
+                sizes = [1, 1, mark - 2][:count]
+                report = report_text(report_of(sizes, [0] * count), [Segment(b"a")] * 2)
+                self.assertEqual(run(voice, call, "--report"), (0, report, ""), end)
+
+    def test_last_end(self):
+        """16,777,215 is spoken, and the next float is refused in the modified join, by either target end."""
+        voice = self.file("one.flv", voice_of_halves(1))
+        for ends, status in {
+            (16777215, 16777215): 0,
+            (16777216, 0): 1,
+            (0, 33554430): 0,
+            (0, 33554432): 1,
+            (-2, 33554432): 0,  # the sum is below 2^25
+        }.items():
+            call = self.file("call.sht", sheet([Segment(b"a", real(end)) for end in ends]))
+            self.assertEqual(run(voice, call)[0], status, ends)
+            self.assertEqual(run(voice, call, "--join=simple")[0], 0, ends)
+
+    def test_one_more_period(self):
+        """A mark on the sample that a half goes up to is spoken. The call is that of an end on the sample itself."""
+        targets = [Target(NONE, whole(64)), Target(whole(1), whole(64))]  # a mark every 125 samples
+
+        def spoken(place, *words):
+            phones = [Segment(name, real(place / 8000)) for name in (b"pau", b"n")]
+            status, text, _ = run(YARD[0], self.file("call.sht", sheet(phones, targets)), *words)
+            self.assertEqual(status, 0)
+            return text
+
+        for words in ((), ("--raw", "--filter=fixed"), ("--report",), ("--ends",)):
+            short, long = spoken(1124, *words), spoken(1125, *words)
+            self.assertTrue(spoken(1124.4999, *words) == short, words)
+            self.assertTrue(spoken(1124.5, *words) == long, words)
+            self.assertTrue(spoken(1125.4999, *words) == long, words)
+        self.assertEqual([len(spoken(place, "--raw")) // 2 for place in (1124.4999, 1124.5)], [1000, 1125])
+
+    def test_ends_in_simple_join(self):
+        """They are printed, and nothing else turns on them."""
+        draw = random.Random(6)
+        voice = self.file("one.flv", voice_of_halves(1))
+        for _ in range(10):
+            timed = [Segment(draw.choice([b"a", b"b"]), real(draw.randrange(-4, 40) / 4)) for _ in range(8)]
+            paths = [
+                self.file(f"{number}.sht", sheet(segments))
+                for number, segments in enumerate((timed, [Segment(segment.name) for segment in timed]))
+            ]
+            for words in ((), ("--report",)):
+                with_ends, without = (run(voice, path, "--join=simple", *words) for path in paths)
+                self.assertEqual(with_ends, without)
+            with_ends, without = (run(voice, path, "--join=simple", "--ends")[1].splitlines() for path in paths)
+            self.assertEqual([line.split()[::3] for line in with_ends], [line.split()[::3] for line in without])
+            ends = [nearest(number_of(segment.end)) for segment in timed]
+            self.assertEqual([int(line.split()[2]) for line in with_ends], ends)
 
     def test_names(self):
         """Each name is one word, as tools/sheet writes it."""
@@ -850,6 +988,7 @@ class CommandLine(unittest.TestCase):
             self.assertTrue(text.startswith(b"usage: player VOICE SHEET"))
             self.assertIn(b"\n  --filter  the arithmetic of the filter; if none is named, one hears float\n", text)
             self.assertIn(b"\n  --strict  refuse a call with a pair of phones that is not in the voice; ", text)
+            self.assertIn(b" ends it (time by rate, to the nearest, a half going up, 0 below zero), ", text)
             self.assertLessEqual(max(map(len, text.splitlines())), 100)
 
     def test_version(self):

@@ -4,7 +4,7 @@ import tempfile
 from pathlib import Path
 
 import cases
-from cases import EXAMPLES, Segment, Target, section, sheet
+from cases import EXAMPLES, Segment, Target, real, section, sheet
 from formats import Header, voice_file
 
 EXAMPLE = (EXAMPLES / "example.flv").read_bytes(), (EXAMPLES / "example.sht").read_bytes()
@@ -84,6 +84,11 @@ class Cases:
         """Ends and targets that another join would refuse play no part."""
         for _, what, data in cases.unfit_calls():
             self.assertEqual(self.spoken(what, EXAMPLE[0], data), (8000, 2, 5), what)
+
+    def test_ends(self):
+        """Ends between two samples play no part either."""
+        phones = [Segment(name, real(place / 8000)) for name, place in ((b"pau", 1.5), (b"aa", 4.5))]
+        self.assertEqual(self.run_on(EXAMPLE[0], sheet(phones)), self.DOCUMENT)
 
     def test_late_mark(self):
         """11: a pair has 16,384 samples, and 1,024 of them are one too many."""

@@ -2,15 +2,10 @@
 
        compare kal|kal16 FILE
 
-   Prints a line for each sentence and setting that differs by more than silence at the end, then how
-   many sentences have each cause. Exit status 1 if one has none. */
+   Prints for each setting and cause the first sentence that has it, then how many sentences have each cause.
+   Exit status 1 if a difference has no known cause. */
 #include "judge.h"
 #include "write.h"
-
-/* Whether more than silence at the end differs. */
-static int differs(const struct verdict *verdict) {
-    return !verdict->equal && (verdict->unexplained || verdict->sample < verdict->samples);
-}
 
 /* A sentence in every setting. */
 static void take(struct tally tally[SETTINGS], const struct call *call, size_t number) {
@@ -18,9 +13,7 @@ static void take(struct tally tally[SETTINGS], const struct call *call, size_t n
         struct verdict verdict = judge(call, &SETTING[i]);
         if (verdict.refusal != 0)
             stop("the engine refused a sentence");
-        count_verdict(&tally[i], &verdict);
-        if (differs(&verdict))
-            print_difference("sentence", number, &SETTING[i], &verdict);
+        take_verdict(&tally[i], &verdict, "sentence", number, &SETTING[i]);
     }
 }
 

@@ -14,16 +14,6 @@
 /* A made-up G.721 voice in which some decoded samples are -32768. */
 #define LOWEST_VOICE 48
 
-/* Prints the first call with each cause. */
-static void show_first(const struct tally *tally, size_t number, const struct setting *setting,
-                       const struct verdict *verdict) {
-    int fresh = verdict->unexplained;
-    for (int what = 0; what < CAUSES; what++)
-        fresh |= verdict->cause[what] > 0 && tally->cause[what] == 0;
-    if (fresh)
-        print_difference("call", number, setting, verdict);
-}
-
 static size_t take_calls(const struct source *source, cst_voice *phones, uint64_t seed, size_t count) {
     struct tally tally[SETTINGS] = {0};
     struct made_call made = {source, phones, seed};
@@ -35,8 +25,7 @@ static size_t take_calls(const struct source *source, cst_voice *phones, uint64_
             struct verdict verdict = judge(&call, &SETTING[i]);
             if (verdict.refusal != 0)
                 stop("the engine refused a made-up call");
-            show_first(&tally[i], number, &SETTING[i], &verdict);
-            count_verdict(&tally[i], &verdict);
+            take_verdict(&tally[i], &verdict, "call", number, &SETTING[i]);
         }
     release(&voice);
     return print_tallies(source->name, tally);

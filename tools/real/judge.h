@@ -24,21 +24,21 @@ struct verdict {
     size_t period, sample;   /* else where the first differing one stands, from 0 */
     size_t cause[CAUSES];    /* how many target ends, marks, bytes and samples differ, where it matters */
     size_t changed[MENDS];   /* how many target ends, marks and bytes differ at all */
-    int unexplained;
+    int unexplained;         /* not alike with every place mended: period and sample are of that run */
 };
 
 struct verdict judge(const struct call *call, const struct setting *setting);
 
-/* Prints where a call differs, and why. */
-void print_difference(const char *what, size_t number, const struct setting *setting, const struct verdict *verdict);
-
-/* Verdicts of many calls: how many are equal, how many have each cause. */
+/* Verdicts of many calls: how many are equal, how many are or have no cause but ROUND, how many have each
+   cause. */
 struct tally {
-    size_t calls, samples, equal, unexplained;
+    size_t calls, samples, equal, but_round, unexplained;
     size_t cause[CAUSES], changed[MENDS];
 };
 
-void count_verdict(struct tally *tally, const struct verdict *verdict);
+/* Counts a verdict. Prints where the call differs, and why, if it is the first with a cause or unexplained. */
+void take_verdict(struct tally *tally, const struct verdict *verdict, const char *what, size_t number,
+                  const struct setting *setting);
 
 /* Prints a table with a line for each setting. Answers how many calls are unexplained. */
 size_t print_tallies(const char *voice, const struct tally tally[SETTINGS]);

@@ -1,4 +1,5 @@
 #include "made.h"
+#include "../../player/nearest.h"
 
 #include <flite/cst_synth.h>
 #include <stdio.h>
@@ -79,13 +80,36 @@ struct source made_voice(const char *name, int g721, uint64_t seed) {
 
 /* ---- a call */
 
-/* A time after another, now and then long after. Of up to 4,000 the first for which the middle in f32 and
-   in f64 fall on different samples. */
+/* Kinds of ends: the middle between the end and the one before it is another sample in f64 than in f32, truncated
+   or to the nearest; or the end stands half a sample after a sample, or on one. */
+enum { TRUNCATED, NEAREST, TIE, WHOLE };
+static const uint8_t KINDS[] = {TRUNCATED, TRUNCATED, TRUNCATED, NEAREST, NEAREST, NEAREST, TIE, WHOLE};
+
+static int is_kind(uint8_t kind, float before, float end, int rate) {
+    float place = end * (float)rate, middle = (before + end) / 2.0f * (float)rate;
+    double exact = (before + end) / 2.0 * rate;
+    if (kind == TRUNCATED)
+        return (int)middle != (int)exact;
+    if (kind == NEAREST)
+        return nearest_sample(middle) != nearest_sample(exact);
+    return place - (float)(int)place == (kind == TIE ? 0.5f : 0);
+}
+
+/* An end moved onto a sample, or half a sample after it, where its kind asks for that. */
+static float moved(uint8_t kind, float end, int rate) {
+    float place = (float)(int)(end * (float)rate);
+    if (kind == TRUNCATED || kind == NEAREST)
+        return end;
+    return (kind == TIE ? place + 0.5f : place) / (float)rate;
+}
+
+/* A time after another, now and then long after. Of up to 4,000 the first that is of a kind. */
 static float later(float time, int rate, uint64_t *row) {
     float least = below(row, 16) == 0 ? 4 : 0.03f, end = time;
+    uint8_t kind = KINDS[below(row, COUNT(KINDS))];
     for (int i = 0; i < 4000; i++) {
-        end = time + least + (float)below(row, 1u << 24) * 1e-8f;
-        if ((int)((time + end) / 2.0f * (float)rate) != (int)((time + end) / 2.0 * rate))
+        end = moved(kind, time + least + (float)below(row, 1u << 24) * 1e-8f, rate);
+        if (is_kind(kind, time, end, rate))
             break;
     }
     return end;

@@ -9,7 +9,8 @@
    program, and only the last one made is whole. */
 struct source made_voice(const char *name, int g721, uint64_t seed);
 
-/* A made-up call on a voice. The ends are chosen so that a target end in f32 is seldom the one in f64. */
+/* A made-up call on a voice. With many of its ends the middle between two in f32 is another sample than in f64,
+   truncated or to the nearest; some ends stand on a sample, some half a sample after one. */
 struct made_call {
     const struct source *source;
     cst_voice *voice; /* for the phone set */

@@ -1,4 +1,5 @@
 #include "steps.h"
+#include "../../player/nearest.h"
 
 #include <flite/cst_sigpr.h>
 #include <flite/cst_units.h>
@@ -24,17 +25,27 @@ static int rate_of(const cst_utterance *utterance) {
 
 /* ---- target ends */
 
-/* Each unit's second target end as document 01 has it, in f32. */
-static size_t mend_ends(cst_utterance *utterance) {
+static int truncated(float place) { return (int)place; }
+
+static int nearest(float place) { return (int)nearest_sample(place); }
+
+/* Gives a unit a target end; answers whether it had another. */
+static size_t set_end(cst_item *unit, int end) {
+    size_t changed = item_feat_int(unit, "target_end") != end;
+    item_set_int(unit, "target_end", end);
+    return changed;
+}
+
+/* Each pair's two target ends in f32, made whole by a rule. Answers how many changed. */
+static size_t mend_ends(cst_utterance *utterance, int (*whole)(float place)) {
     float rate = (float)rate_of(utterance);
     const cst_item *left = relation_head(utt_relation(utterance, "Segment"));
-    const cst_item *unit = relation_head(utt_relation(utterance, "Unit"));
+    cst_item *unit = relation_head(utt_relation(utterance, "Unit"));
     size_t changed = 0;
     for (; unit != NULL; unit = item_next(item_next(unit)), left = item_next(left)) {
-        float sum = item_feat_float(left, "end") + item_feat_float(item_next(left), "end");
-        int end = (int)(sum / 2.0f * rate);
-        changed += item_feat_int(item_next(unit), "target_end") != end;
-        item_set_int(item_next(unit), "target_end", end);
+        float end = item_feat_float(left, "end"), sum = end + item_feat_float(item_next(left), "end");
+        changed += set_end(unit, whole(end * rate));
+        changed += set_end(item_next(unit), whole(sum / 2.0f * rate));
     }
     return changed;
 }
@@ -75,10 +86,10 @@ static size_t mend_marks(cst_utterance *utterance) {
 /* ---- mu-law bytes */
 
 /* Puts a 0 where the engine has one and flite has what its encoder gives in place of it. */
-static size_t mend_traps(cst_lpcres *spoken, const struct bytes *excitation) {
+static size_t mend_traps(cst_lpcres *spoken, const cst_lpcres *ours) {
     size_t changed = 0;
-    for (size_t i = 0; i < excitation->length && i < (size_t)spoken->num_samples; i++)
-        if (excitation->at[i] == 0 && (spoken->residual[i] == 2 || spoken->residual[i] == 127)) {
+    for (int i = 0; i < ours->num_samples && i < spoken->num_samples; i++)
+        if (ours->residual[i] == 0 && (spoken->residual[i] == 2 || spoken->residual[i] == 127)) {
             spoken->residual[i] = 0;
             changed++;
         }
@@ -92,22 +103,24 @@ static void filter(cst_utterance *utterance, uint32_t number) {
     utt_set_wave(utterance, number == DIPHONE_FILTER_FIXED ? lpc_resynth_fixedpoint(spoken) : lpc_resynth(spoken));
 }
 
-void speak_in_steps(cst_utterance *utterance, const struct setting *setting, unsigned mends,
-                    const struct bytes *excitation, size_t changed[MENDS]) {
+void speak_in_steps(cst_utterance *utterance, const struct setting *setting, int mends, const cst_lpcres *ours,
+                    size_t changed[MENDS]) {
     memset(changed, 0, MENDS * sizeof *changed);
     get_diphone_units(utterance);
     if (setting->join == DIPHONE_JOIN_SIMPLE) {
         asis_to_pm(utterance);
     } else {
-        if (mends & MEND(ENDS))
-            changed[ENDS] = mend_ends(utterance);
+        if (mends > ENDS)
+            changed[ENDS] = mend_ends(utterance, truncated);
+        if (mends > ROUND)
+            changed[ROUND] = mend_ends(utterance, nearest);
         f0_targets_to_pm(utterance);
-        if (mends & MEND(SLOPE))
+        if (mends > SLOPE)
             changed[SLOPE] = mend_marks(utterance);
     }
     concat_units(utterance);
-    if (mends & MEND(TRAP))
-        changed[TRAP] = mend_traps(periods(utterance), excitation);
+    if (mends > TRAP)
+        changed[TRAP] = mend_traps(periods(utterance), ours);
     filter(utterance, setting->filter);
 }
 

@@ -1,10 +1,9 @@
 /* Flite's wave synthesis in its own steps, as they are and with the places mended where flite departs
-   from the Rust. */
+   from the engine. */
 #ifndef REAL_STEPS_H
 #define REAL_STEPS_H
 
 #include "../../include/diphone.h"
-#include "../../player/bytes.h"
 #include "source.h"
 
 /* A join and a filter, by the flags of diphone.h. */
@@ -16,19 +15,18 @@ struct setting {
 #define SETTINGS 4
 extern const struct setting SETTING[SETTINGS];
 
-/* What can be mended:
-   ENDS   a unit's second target end is worked out in f64, here in f32
+/* What can be mended, in this order, each after those before it:
+   ENDS   a unit's second target end is worked out in f64, here and in the Rust in f32
+   ROUND  target ends are truncated, as in the Rust; here they go to the nearest sample
    SLOPE  the slope between targets is worked out in f32, here in f64 and then rounded
    TRAP   mu-law encoding gives 2 in place of 0, and 127 for the sample -32768 */
-enum { ENDS, SLOPE, TRAP, MENDS };
-#define MEND(what) (1u << (what))
-#define MEND_ALL (MEND(MENDS) - 1)
+enum { ENDS, ROUND, SLOPE, TRAP, MENDS };
 
 /* Speaks a fresh utterance by get_diphone_units, asis_to_pm or f0_targets_to_pm, concat_units and
-   lpc_resynth_fixedpoint or lpc_resynth. `mends` are bits; `excitation` has the engine's bytes for TRAP.
-   Counts in `changed` the ends, marks and bytes that a mend changed. */
-void speak_in_steps(cst_utterance *utterance, const struct setting *setting, unsigned mends,
-                    const struct bytes *excitation, size_t changed[MENDS]);
+   lpc_resynth_fixedpoint or lpc_resynth. So many places are mended; `ours` has the engine's bytes for TRAP.
+   Counts in `changed` the ends, marks and bytes that each mend changed. */
+void speak_in_steps(cst_utterance *utterance, const struct setting *setting, int mends, const cst_lpcres *ours,
+                    size_t changed[MENDS]);
 
 /* Speaks a fresh utterance by diphone_synth, as its features say. Answers 0 if flite has no such setting:
    its simple join has the fixed filter alone. */

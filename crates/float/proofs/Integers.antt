@@ -48,15 +48,15 @@ module _ (h m : ℕ) (e : ℤ) where
   up-to : m * up e * 1 ≤ 1 * 2 ^ h * down e → m * up e / down e ≤ 2 ^ h
   up-to l = div-le-of-le-mul (down e) (rw (mul-comm (down e)) (omega arith))
 
-  from-le : T (le (fin false 1 (pos h)) (fin false m e)) → 2 ^ h ≤ m * up e / down e
+  pub from-le : T (le (fin false 1 (pos h)) (fin false m e)) → 2 ^ h ≤ m * up e / down e
   unfolding le lt eq
   from-le t = reaches (leb→le (1 * 2 ^ h * down e) (m * up e * 1) (rw le-test at t))
 
-  from-nle : T (not (le (fin false 1 (pos h)) (fin false m e))) → m * up e * 1 < 1 * 2 ^ h * down e
+  pub from-nle : T (not (le (fin false 1 (pos h)) (fin false m e))) → m * up e * 1 < 1 * 2 ^ h * down e
   unfolding le lt eq
   from-nle t = nleb→lt (1 * 2 ^ h * down e) (m * up e * 1) (rw le-test at t)
 
-  not-le : T (le (fin false 1 (pos h)) (fin true m e)) → ⊥
+  pub not-le : T (le (fin false 1 (pos h)) (fin true m e)) → ⊥
   unfolding le lt eq
   not-le t = omega (arith, power-pos, eqb→eq (1 * 2 ^ h * down e) 0 (and-r (eqb (1 * 2 ^ h * down e) (m * up e * 1)) (eqb (1 * 2 ^ h * down e) 0) t))
 

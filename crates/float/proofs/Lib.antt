@@ -1,5 +1,6 @@
--- `Laws` is for callers, and `Examples` computes the definitions at their edges. The others are what the proofs of several functions share.
+-- `Laws` and `NearestLaws` are for callers, and `Examples` computes the definitions at their edges. The others are what the proofs of several functions share.
 pub mod Laws
+pub mod NearestLaws
 pub mod Examples
 pub mod Tests
 pub mod Sign
@@ -7,3 +8,4 @@ pub mod Value
 pub mod Rounding
 pub mod Narrow
 pub mod Integers
+pub mod Halves

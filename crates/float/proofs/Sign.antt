@@ -31,7 +31,7 @@ module _ (s t : Bool) where
   unfolding units
   units-signed f q k = cond-signed (ltb (q * 2 ^ k) (2 ^ (low f + suc (emax f)))) (odd (suc (prec f)) s q k (low f)) (inf s) (odd (suc (prec f)) t q k (low f)) (inf t) (odd-signed (suc (prec f)) q k (low f)) refl
 
-  round-signed : (f : Format) (n d : ℕ) → round f s n d ≡ signed s (round f t n d)
+  pub round-signed : (f : Format) (n d : ℕ) → round f s n d ≡ signed s (round f t n d)
   unfolding round
   round-signed f n d = units-signed f _ _
 

@@ -1,5 +1,5 @@
-// Casts between floats and integers as Rust's `as` has them, an f32 by its bit pattern, and which of two
-// floats is nearer. Each public function takes every value.
+// Casts between floats and integers as Rust's `as` has them, an f32 to the nearest integer and by its bit
+// pattern, and which of two floats is nearer. Each public function takes every value.
 ghost use mathlib.Core.Path.{_≡_};
 ghost use Prim.Native.Nat.{_*_, _^_, _≤_, _<_};
 ghost use lib.IntN.{pos};
@@ -7,6 +7,7 @@ ghost use lib.Ieee.{binary32, binary64, ofBits, toBits, ofInt, toSigned, toUnsig
 ghost use lib.Ieee.Nearest.{closest};
 ghost use Rattle.float.specs.Casts.{narrow};
 ghost use Rattle.float.specs.Distance.{abs, nearer};
+ghost use Rattle.float.specs.Nearest.{toNearest};
 
 // q / 2^n to the nearest whole number, a tie to the even one.
 fn rounded_shift(q: u64, n: u64) -> u64
@@ -105,6 +106,19 @@ pub fn f32_to_usize(x: f32) -> usize
     ensures { λ r. ⌜ r ≡ toUnsigned 64 x ⌝ }
 {
     f64_to_usize(std::num::f32_to_f64_with_nan(x))
+}
+
+// x to the nearest whole number, an exact half going up; saturated, 0 below zero and at a NaN.
+pub fn f32_to_nearest(x: f32) -> usize
+    ensures { λ r. ⌜ r ≡ toNearest 64 x ⌝ }
+{
+    // from 2^23 on every f32 is a whole number
+    if x >= 8388608.0 {
+        return f32_to_usize(x);
+    }
+    // below it twice x is exact in f64
+    let halves = f64_to_usize(2.0 * std::num::f32_to_f64_with_nan(x));
+    (halves + 1) / 2
 }
 
 // n as f32: n itself up to 2^24, and the nearest above, a tie to the even one.

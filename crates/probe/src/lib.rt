@@ -15,6 +15,7 @@ ghost use Rattle.base.specs.Choice.{pick};
 ghost use Rattle.base.specs.Words.{low, signed32};
 ghost use Rattle.float.specs.Casts.{narrow};
 ghost use Rattle.float.specs.Distance.{nearer};
+ghost use Rattle.float.specs.Nearest.{toNearest};
 ghost use Rattle.probe.specs.Filters.{filterOf, twoPeriods, Lent, fits};
 ghost use Rattle.ulaw.specs.Ulaw.{sampleOf, ulawOf};
 
@@ -48,6 +49,14 @@ pub extern "C" fn probe_f32_to_usize(x: f32) -> usize
     ensures { λ r. ⌜ r ≡ toUnsigned 64 x ⌝ }
 {
     float::f32_to_usize(x)
+}
+
+// The nearest whole number, an exact half going up.
+#[no_mangle]
+pub extern "C" fn probe_f32_to_nearest(x: f32) -> usize
+    ensures { λ r. ⌜ r ≡ toNearest 64 x ⌝ }
+{
+    float::f32_to_nearest(x)
 }
 
 // Rust's `x as usize`.

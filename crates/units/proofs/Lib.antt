@@ -6,4 +6,5 @@ pub mod WalkLaws
 pub mod SampleLaws
 pub mod StepLaws
 pub mod EndLaws
+pub mod NearestLaws
 pub mod AskedLaws

@@ -1,12 +1,13 @@
--- Document 01, 'Selecting and marking': halves and target ends.
+-- Document 01, 'Selecting and marking': halves and target ends; document 02, A9: target ends to the nearest sample.
 use mathlib.Core.List.{List, [], _∷_, _++_}
 use mathlib.Core.Option.{Option, none, some}
 use mathlib.Core.Bool.{false}
 use Prim.Native.Nat.{ℕ, suc, _+_, _≤_, max}
 use lib.Dec.{leb}
 use lib.IntN.{pos}
-use lib.Ieee.{Float, fin, binary32, add, mul, div, ofInt, toUnsigned}
+use lib.Ieee.{Float, fin, binary32, add, mul, div, ofInt}
 use Rattle.base.specs.Choice.{pick}
+use Rattle.float.specs.Nearest.{toNearest}
 use Rattle.refusal.specs.declared.Refusal.{Refusal}
 use Rattle.refusal.specs.declared.Refusal.the-variants.{PastLimit}
 use Rattle.voice.specs.Voice.{Entry, Voice}
@@ -20,9 +21,13 @@ use Rattle.units.specs.declared.CheckedEnds.{CheckedEnds}
 use Rattle.units.specs.declared.CheckedEnds.the-variants as checked
 use Rattle.units.specs.Selecting.{entryOf}
 
--- a time in seconds × rate, in f32, 'truncated, 0 below zero'
+-- a time in seconds × rate, in f32
+abbrev pub productOf : ℕ → Float → Float
+productOf rate time = mul binary32 time (ofInt binary32 (pos rate))
+
+-- 'rounds a phone's end to the nearest sample, an exact half going up'; 'below zero is still 0'
 unfoldable pub samplesAt : ℕ → Float → ℕ
-samplesAt rate time = toUnsigned 64 (mul binary32 time (ofInt binary32 (pos rate)))
+samplesAt rate time = toNearest 64 (productOf rate time)
 
 -- '(left + right) / 2', in f32 (`fin false 1 (pos 1)` is 2)
 unfoldable pub midway : Float → Float → Float

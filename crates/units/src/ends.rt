@@ -9,11 +9,11 @@ use super::UnitPair;
 use index::EntryPeriods;
 use sheet::Value;
 
-// A time in seconds, in output samples.
+// The sample nearest to a time by the rate, in f32.
 fn samples_at(rate: u32, time: f32) -> usize
     ensures { λ r. ⌜ r ≡ units.samplesAt rate time ⌝ }
 {
-    float::f32_to_usize(time * float::u32_to_f32(rate))
+    float::f32_to_nearest(time * float::u32_to_f32(rate))
 }
 
 // Half the way from one time to another.

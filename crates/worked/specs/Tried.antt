@@ -10,6 +10,7 @@ use Rattle.base.specs.Buffers.{over, flat, upto}
 use Rattle.base.specs.Bytes.{littleEndian, bytesOf}
 use Rattle.base.specs.Words.{low, signed16}
 use Rattle.float.specs.Casts.{narrow}
+use Rattle.float.specs.Nearest.{toNearest}
 use Rattle.ulaw.specs.Ulaw.{decisionValue, quantisedValue, lastInterval, ulawOf, sampleOf}
 use Rattle.adpcm_float.specs.Floating.{exponent, mantissa, floata, srMag, floatb, anMag, wanMag, signed, fmult}
 use Rattle.adpcm_scale.specs.Scale.{magnitude, reconst, adda, antilog, dqOf, functw, filtd, limb, filte, mix, functf}
@@ -84,7 +85,7 @@ unfolding ofBits add sub mul div lt le ne ofInt toUnsigned toSigned every firstF
     entryAt wholeEntry entriesFrom voiceAt placesOf voiceOf lookup insert sort sorted sortedIndex offset residualOf samplesOf
     samplesFrom rowOf longest hasNeeded risingIn goodTables withinFrames distinct goodIndex openingRefusal indexFits vowels
     consonants vc isVowel _andThen_ groups count printable name isFinite finite valueOf value asF32 segment target repeated
-    sheetFrom sheetRefusal sheetOf foldName folded nameOf inCluster firstTried entryOf foundFrom foundAll triedFound samplesAt midway
+    sheetFrom sheetRefusal sheetOf foldName folded nameOf inCluster firstTried entryOf foundFrom foundAll triedFound toNearest samplesAt midway
     unitsOfPair unitsFrom unitsAll endRefusal f0At goesOn nextTime markAt climb slopeOf climbTo marksFrom pitchMarks marksOfPeriods naturalMarks
     naturalUnits markRefusal decodedBy sourceBy sourceOf centred nearestFrom nearestPeriod paceOf placeAfterSize periodOf lastOf
     upTo upToEnd ownPeriods shareCount sharesFrom shares periodsOfMarks periodsOfShare

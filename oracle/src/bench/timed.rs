@@ -17,6 +17,7 @@ use crate::voice::VoiceParams;
 use std::hint::black_box;
 
 /// What is timed. The Rust is given its utterance, the archive reads the sheet.
+/// The Rust's target ends are its own, truncated.
 #[derive(Clone, Copy, Debug, PartialEq, Eq)]
 pub enum Part {
     Open,
@@ -95,6 +96,7 @@ pub struct Timed {
     rust: DiphoneVoice,
     utt: Utterance,
     params: VoiceParams,
+    /// What the Rust's filter is timed on: the call's, from rounded target ends.
     excitation: Excitation,
     pub samples: usize,
     /// Whether the strict call is refused for a pair that finds no name.
@@ -134,7 +136,8 @@ impl Room {
 }
 
 impl Timed {
-    /// Makes the call once on either side. Its samples must be equal.
+    /// Makes the call once on either side, the Rust with rounded target ends. Its
+    /// samples must be equal.
     pub fn new(voice: &'static [u8], sheet: &Sheet, settings: Settings) -> Timed {
         let rng = &mut Rng::new(1);
         let sheet_bytes = sheet::write(sheet);
@@ -149,6 +152,8 @@ impl Timed {
         let lent = Lent::of(&buffers);
         let rust = DiphoneVoice::parse(voice).expect("a voice");
         let params = reference::params(&rust, settings);
+        let filled = reference::fill(&rust, sheet, settings);
+        let periods = reference::speak(&rust, sheet, settings, &filled);
         let mut timed = Timed {
             voice,
             settings,
@@ -161,19 +166,19 @@ impl Timed {
             buffers,
             lent,
             utt: reference::prepared(sheet, settings),
-            excitation: reference::fill(&rust, sheet, settings).taken,
+            excitation: filled.taken,
             params,
             rust,
             sheet: sheet_bytes,
             costs: Costs::default(),
         };
-        timed.compare(sheet);
+        timed.compare(&periods);
         timed
     }
 
-    fn compare(&mut self, sheet: &Sheet) {
+    fn compare(&mut self, periods: &[Vec<i16>]) {
         let mut state = self.fresh.clone();
-        for period in reference::speak(&self.rust, sheet, self.settings) {
+        for period in periods {
             let given = archive::pull(&mut state, &self.lent, &mut self.slice);
             assert_eq!(given, period.len() as i64, "samples of a period");
             let bytes: Vec<u8> = period

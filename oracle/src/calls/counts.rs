@@ -3,6 +3,7 @@
 use super::machine::{DONE, IMPOSSIBLE, SHORT_SLICE};
 use super::strict_counts::Strict;
 use crate::call::{Settings, JOINS, NAMED};
+use crate::departure;
 use crate::expected::{answers, Spoken, SHORT_BUFFER};
 use crate::refusal::{numbered, ByNumber, LAST};
 use crate::report::Report;
@@ -81,6 +82,7 @@ pub struct Counts {
     impossible: u64,
     pairs: [u64; PAIRS.len()],
     pub strict: Strict,
+    departure: departure::Counts,
     /// Calls that the Rust would take too long for.
     pub not_compared: u64,
 }
@@ -88,6 +90,7 @@ pub struct Counts {
 impl Counts {
     pub fn accepted(&mut self, settings: Settings, voice: &Voice, spoken: &Spoken) {
         self.accepted += 1;
+        self.departure.add(&spoken.departure);
         self.speaking += u64::from(!spoken.periods.is_empty());
         self.marks += spoken.needed[1] as u64;
         let join = JOINS.iter().position(|join| *join == settings.join);
@@ -172,6 +175,7 @@ impl Counts {
             format!("made with no filter named and with float: {pairs}")
         });
         self.strict.check_reached(report);
+        self.departure.check_reached(report);
         let answered = answers().all(|number| self.reports[number] > 0);
         report.check(answered, || {
             let reports = numbered(&self.reports);
@@ -203,6 +207,7 @@ impl Counts {
             named(&PAIRS, &self.pairs)
         );
         self.strict.print();
+        self.departure.print();
         println!(
             "  not compared, as the Rust would take long: {}",
             self.not_compared

@@ -5,6 +5,7 @@
 pub mod archive;
 mod cases;
 mod counts;
+mod ends_cases;
 pub mod guarded;
 mod machine;
 mod odd_states;
@@ -31,6 +32,9 @@ const CALLS: u64 = 2_000;
 
 /// So many generated calls are followed by a strict one.
 const STRICT: u64 = 2;
+
+/// So many are followed by one with target ends of a manner.
+const ENDS: u64 = 4;
 
 /// The call's files and settings, and what it is.
 pub struct Call {
@@ -70,6 +74,9 @@ pub fn run(args: &Args) -> bool {
     strict_cases::at_limits(args.seed, &mut each);
     strict_cases::wide(args.seed, &mut each);
     strict_cases::long(args.seed, &mut each);
+    let numbers = args.from / ENDS..(args.from + calls) / ENDS;
+    ends_cases::generated(args.seed, numbers, &mut each);
+    ends_cases::by_products(args.seed, &mut each);
     bench.counts.check_reached(&mut bench.report);
     println!("oracle calls: seed {}, {calls} generated calls", args.seed);
     bench.counts.print();

@@ -5,10 +5,12 @@ pub mod damaged_calls;
 pub mod damaged_sheets;
 pub mod damaged_voices;
 pub mod empty_heads;
+pub mod end_calls;
 pub mod shaped;
 pub mod sheets;
 pub mod small;
 pub mod strict_calls;
+pub mod target_ends;
 pub mod text;
 pub mod voices;
 

@@ -18,6 +18,8 @@ pub fn about(kind: Kind, draft: &Draft, shown: &Expected) -> String {
         Kind::Extended => "spoken, extended voice and longer sheet".to_string(),
         Kind::Inside => "spoken, inside a limit".to_string(),
         Kind::AtLimit(_) if shown.number == 0 => "spoken, at a limit".to_string(),
+        Kind::Ends(..) => "spoken, target ends".to_string(),
+        Kind::AtEnds(_) if shown.number == 0 => "spoken, target ends by their products".to_string(),
         Kind::Several => format!("refused {} of several causes", shown.number),
         _ => format!("refused {}", shown.number),
     };

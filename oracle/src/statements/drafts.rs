@@ -5,8 +5,9 @@ use crate::call::{Filter, Join, Settings};
 use crate::gen::damaged_calls::{self, entry, LabelledCall};
 use crate::gen::shaped::without_names;
 use crate::gen::small::{self, Shape};
+use crate::gen::target_ends::{self, Manner};
 use crate::gen::voices::{file, plain, with_extras, Vocabulary, VoiceSpec};
-use crate::gen::{damaged_sheets, damaged_voices, Labelled};
+use crate::gen::{damaged_sheets, damaged_voices, end_calls, Labelled};
 use crate::lent::{Room, NAMES};
 use crate::refusal::Refusal;
 use crate::rng::Rng;
@@ -17,10 +18,11 @@ use std::collections::BTreeMap;
 const MOST_VOICE: usize = 640;
 const MOST_SHEET: usize = 140;
 
-/// The round through the kinds in which no call names float, and the strict one
-/// behind it.
+/// The round through the kinds in which no call names float, the strict one
+/// behind it, and the one of target ends behind that.
 pub const UNNAMED: u64 = 3;
 pub const STRICT: u64 = 4;
+pub const ENDS: u64 = 5;
 
 /// A call before its buffers and slices are drawn.
 pub struct Draft {
@@ -39,21 +41,24 @@ impl Draft {
         if round == UNNAMED && self.settings.filter_in() == Filter::Float {
             self.settings.filter = None;
         }
-        self.settings.strict = round == STRICT;
+        self.settings.strict |= round == STRICT;
         self
     }
 }
 
-/// The calls at a limit that are small.
+/// The calls at a limit that are small, and those whose target ends are given by
+/// their products.
 pub struct Limits {
     calls: Vec<LabelledCall>,
+    ends: Vec<LabelledCall>,
 }
 
 impl Limits {
     pub fn new() -> Limits {
         let mut calls = damaged_calls::all();
         calls.retain(|call| call.voice.len() <= MOST_VOICE && call.sheet.len() <= MOST_SHEET);
-        Limits { calls }
+        let ends = end_calls::some();
+        Limits { calls, ends }
     }
 
     /// One of those with this label.
@@ -101,6 +106,8 @@ pub fn draft(rng: &mut Rng, kind: Kind, limits: &Limits) -> Option<Draft> {
         Kind::Short(buffer) => short(rng, buffer),
         Kind::Several => several(rng, limits)?,
         Kind::MissingBefore(cause) => lacking(limits.pick(rng, Some(cause))),
+        Kind::Ends(settings, shape, manner) => ends(rng, settings, shape, manner),
+        Kind::AtEnds(number) => at_limit(rng, &limits.ends[number % limits.ends.len()]),
     };
     let small = draft.voice.len() <= MOST_VOICE && draft.sheet.len() <= MOST_SHEET;
     small.then_some(draft)
@@ -123,6 +130,14 @@ fn good(rng: &mut Rng, settings: Settings, shape: Shape) -> Draft {
     let spec = small::voice(rng, &words, shape);
     let sheet = small::sheet(rng, &words, spec.header.rate);
     drafted(rng, &spec, &sheet, settings)
+}
+
+fn ends(rng: &mut Rng, settings: Settings, shape: Shape, manner: Manner) -> Draft {
+    let (spec, sheet) = target_ends::little(rng, shape, manner);
+    Draft {
+        reason: manner.name().to_string(),
+        ..drafted(rng, &spec, &sheet, settings)
+    }
 }
 
 fn drafted(rng: &mut Rng, spec: &VoiceSpec, sheet: &Sheet, settings: Settings) -> Draft {

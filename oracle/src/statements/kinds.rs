@@ -1,11 +1,12 @@
 //! The kinds of calls that a run goes through.
 
-use super::drafts::STRICT;
+use super::drafts::{ENDS, STRICT};
 use super::rounding;
 use crate::call::{Filter, Join, Settings};
 use crate::expected::{Given, Most, Spoken, SHORT_BUFFER};
 use crate::gen::damaged_voices::CAUSES;
 use crate::gen::small::Shape;
+use crate::gen::target_ends::{Manner, MANNERS};
 use crate::refusal::Refusal;
 use crate::rng::Rng;
 
@@ -18,6 +19,9 @@ const LONG: Most = Most {
     marks: 12,
     samples: 300,
 };
+
+/// Rounds through the kinds before they begin again.
+const ROUNDS: u64 = ENDS + 1;
 
 #[derive(Clone, Copy, Debug, PartialEq, Eq)]
 pub enum Kind {
@@ -56,6 +60,11 @@ pub enum Kind {
     /// Strict, and refused with 16; the second with another cause behind it.
     Missing(Settings, Shape),
     MissingBefore(Refusal),
+    /// Spoken, with target ends of a manner.
+    Ends(Settings, Shape, Manner),
+    /// The call of this number whose target ends are given by their products,
+    /// spoken or refused.
+    AtEnds(usize),
 }
 
 impl Kind {
@@ -103,6 +112,36 @@ pub fn all() -> Vec<Kind> {
     kinds
 }
 
+/// The kind of a call by its number, and the round through all kinds that it is
+/// in. One round has target ends where rounding shows instead.
+pub fn of(number: u64) -> (Kind, u64) {
+    let kinds = all();
+    let round = number / kinds.len() as u64 % ROUNDS;
+    let place = number as usize % kinds.len();
+    let kind = match round {
+        ENDS => ends(kinds.len())[place],
+        _ => kinds[place].in_round(round),
+    };
+    (kind, round)
+}
+
+/// Every setting of the modified join with every shape, the manners in turn; the
+/// rest of so many kinds by their products.
+fn ends(count: usize) -> Vec<Kind> {
+    let mut kinds = Vec::new();
+    let modified = |settings: &Settings| settings.join == Join::Modified;
+    let settings = Settings::all().into_iter().filter(modified);
+    for (i, settings) in settings.enumerate() {
+        for (j, shape) in SHAPES.into_iter().enumerate() {
+            let manner = MANNERS[(i + 3 * j) % MANNERS.len()];
+            kinds.push(Kind::Ends(settings, shape, manner));
+        }
+    }
+    kinds.extend((0..count - kinds.len()).map(Kind::AtEnds));
+    Rng::new(0).shuffle(&mut kinds);
+    kinds
+}
+
 /// Calls of `gen/damaged_calls.rs` at a limit and just past it.
 const AT_LIMITS: [&str; 9] = [
     "slope at f32's largest",
@@ -121,21 +160,33 @@ const AT_LIMITS: [&str; 9] = [
 fn spoken_kinds() -> Vec<Kind> {
     let mut kinds = Vec::new();
     for settings in Settings::named() {
-        for (g721, sizes) in [(false, false), (false, true), (true, false), (true, true)] {
+        for shape in SHAPES {
+            let Shape { g721, sizes } = shape;
             let first = g721 == settings.fold && sizes == (settings.filter_in() == Filter::Float);
             if settings.join != Join::None || first {
-                kinds.push(Kind::Spoken(settings, Shape { g721, sizes }));
+                kinds.push(Kind::Spoken(settings, shape));
             }
         }
     }
     kinds
 }
 
+const SHAPES: [Shape; 4] = [
+    shape(false, false),
+    shape(false, true),
+    shape(true, false),
+    shape(true, true),
+];
+
+const fn shape(g721: bool, sizes: bool) -> Shape {
+    Shape { g721, sizes }
+}
+
 /// Whether a call that gets this number is one of the kind. Most spoken calls
 /// are to have periods.
 pub fn is_of(rng: &mut Rng, kind: Kind, voice: &[u8], given: &Given, number: usize) -> bool {
     match (kind, given) {
-        (Kind::AtLimit(_), _) => true,
+        (Kind::AtLimit(_) | Kind::AtEnds(_), _) => true,
         (Kind::Voice(cause) | Kind::Sheet(cause) | Kind::Call(cause), _) => {
             number == cause.number()
         }
@@ -156,6 +207,21 @@ fn is_spoken(rng: &mut Rng, kind: Kind, voice: &[u8], call: &Spoken) -> bool {
         Kind::FarMarks => call.needed[1] > 2,
         Kind::OneMark => call.needed[1] == 1,
         Kind::Rounding => rounding::shows(voice, call),
+        Kind::Ends(_, _, manner) => periods > 1 && has_ends(call, manner),
         _ => periods > 1,
+    }
+}
+
+/// Whether the target ends of a call are of a manner. Where it allows, the
+/// samples are not the Rust's own.
+fn has_ends(call: &Spoken, manner: Manner) -> bool {
+    let departure = &call.departure;
+    match manner {
+        Manner::Whole | Manner::Seconds => departure.has_whole_products(),
+        Manner::BesideHalf => departure.is_beside_half(),
+        Manner::BelowZero => departure.is_below_zero(),
+        Manner::High => true,
+        Manner::Half => departure.has_half() && departure.shows(),
+        Manner::Low | Manner::BeforeMark | Manner::Mixed => departure.shows(),
     }
 }

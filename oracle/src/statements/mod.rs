@@ -12,15 +12,12 @@ use crate::call::Settings;
 use crate::expected::{self, Expected, Given};
 use crate::lent::{self, Buffers};
 use crate::rng::Rng;
-use drafts::{Draft, Limits, STRICT, UNNAMED};
+use drafts::{Draft, Limits, UNNAMED};
 use kinds::Kind;
 use std::ops::Range;
 
 /// Calls in a run that is not told otherwise.
 const CALLS: u64 = 30;
-
-/// Rounds through the kinds, the strict one last.
-const ROUNDS: u64 = STRICT + 1;
 
 /// Draws for one call before something must be wrong.
 const MOST_DRAWS: usize = 20_000;
@@ -74,9 +71,7 @@ pub fn unnamed_round() -> Range<u64> {
 
 /// The call of one number. It depends on the seed and the number only.
 pub fn drawn(seed: u64, number: u64, limits: &Limits) -> Drawn {
-    let kinds = kinds::all();
-    let round = number / kinds.len() as u64 % ROUNDS;
-    let kind = kinds[number as usize % kinds.len()].in_round(round);
+    let (kind, round) = kinds::of(number);
     let rng = &mut Rng::for_case(seed, 3_000_000 + number);
     for _ in 0..MOST_DRAWS {
         let draft = drafts::draft(rng, kind, limits).map(|draft| draft.in_round(round));

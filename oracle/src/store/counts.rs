@@ -2,6 +2,7 @@
 
 use super::record::Stored;
 use crate::call::{Join, Settings, JOINS};
+use crate::departure;
 use crate::expected::answers;
 use crate::refusal::{numbered, ByNumber, Refusal};
 use crate::voicefile;
@@ -22,6 +23,7 @@ pub struct Counts {
     strict: ByNumber,
     /// Spoken calls with their periods and samples.
     spoken: [usize; 3],
+    departure: departure::Counts,
     /// What was spoken: settings, codecs, orders; and what was refused with 16.
     met: BTreeSet<String>,
 }
@@ -46,6 +48,7 @@ impl Counts {
         let Some(spoken) = &call.spoken else {
             return;
         };
+        self.departure.add(&spoken.departure);
         let [periods, samples] = [spoken.summary[1], spoken.summary[2]];
         let more = [1, periods, samples];
         self.spoken = std::array::from_fn(|i| self.spoken[i] + more[i]);
@@ -75,6 +78,7 @@ impl Counts {
         if self.unnamed[1..].iter().all(|count| *count == 0) {
             missing.push("a refusal where no filter is named".to_string());
         }
+        missing.extend(self.departure.missing());
         let mut wanted = vec![order(0), order(32)];
         wanted.extend(JOINS.map(missing_in));
         for settings in Settings::all() {
@@ -97,6 +101,7 @@ impl Counts {
         println!("  strict ones: {}", numbered(&self.strict));
         let [calls, periods, samples] = self.spoken;
         println!("  spoken: {calls} calls, {periods} periods, {samples} samples");
+        self.departure.print();
     }
 }
 

@@ -11,20 +11,21 @@ use crate::gen::strict_calls;
 pub fn all() -> Vec<Stored> {
     let mut calls = edges::either_codec(Settings::strict());
     for (number, call) in strict_calls::some().iter().enumerate() {
-        calls.extend(stored(call, BUFFERS));
+        calls.extend(stored("strict", call, BUFFERS));
         if number % 4 == 0 {
-            calls.extend(stored(call, [0; 6]));
+            calls.extend(stored("strict", call, [0; 6]));
         }
     }
     calls
 }
 
-fn stored(call: &LabelledCall, lent: [usize; 6]) -> Option<Stored> {
+/// A call of a sort.
+pub fn stored(sort: &str, call: &LabelledCall, lent: [usize; 6]) -> Option<Stored> {
     let LabelledCall { voice, sheet, .. } = call;
     let stored = Stored::new("", voice, sheet, call.settings, lent)?;
     let kind = match stored.number {
-        0 => "strict, spoken".to_string(),
-        number => format!("strict, refused {number}"),
+        0 => format!("{sort}, spoken"),
+        number => format!("{sort}, refused {number}"),
     };
     Some(Stored { kind, ..stored })
 }
