@@ -2,7 +2,6 @@
 use mathlib.Core.Path.{ap, _∙_}
 use native.Mathlib.Omega.{arith}
 use borrow.Author.Needs.{needs}
-use Prim.Native.Nat.{ℕ, _+_, _/_}
 use lib.Ieee.{ofBits}
 use Rattle.float.proofs.Tests.{yes, no}
 use Rattle.float.proofs.Halves.{halves, by-whole, by-halves}
@@ -35,8 +34,8 @@ returns-2 : tie.Need-returns-2
 unfolding ofBits
 returns-2 c =
     let k = c .before .before in
-    ap (λ (n : ℕ). (n + 1) / 2) (c .f64-to-usize .ensures ∙ ap halves (c .before .f32-to-f64-with-nan .ensures))
-    ∙ by-halves (k .before .args .x) (yes (k .before .good .0 .1)) (no (k .if1 .left)) .1
+    let same = by-halves (k .before .args .x) (yes (k .before .good .0 .1)) (no (k .if1 .left)) .1 in
+    omega (arith, same, c .f64-to-usize .ensures, ap halves (c .before .f32-to-f64-with-nan .ensures))
 
 pub f32-to-nearest-spec : {M : Type 1} → statement M
 f32-to-nearest-spec = tie.close (tie.spec f32-to-usize-requires returns f32-to-f64-with-nan-requires f64-to-usize-requires add-result returns-2)
