@@ -17,7 +17,7 @@
 #include <stddef.h>
 #include <stdint.h>
 
-#define DIPHONE_VERSION "1.5"
+#define DIPHONE_VERSION "1.6"
 
 #ifdef __cplusplus
 #define DIPHONE_RESTRICT
@@ -85,7 +85,11 @@ uint32_t diphone_open(const uint8_t *DIPHONE_RESTRICT voice, size_t voice_len,
  * The modified join alone reads where phones end. A pair has two target ends, one for each half:
  * the end of its left phone, and the middle between the ends of both, (left + right) / 2. Either is
  * a time in seconds and is multiplied by the rate, all in f32; it goes to the nearest sample, an
- * exact half up, and is sample 0 below zero. A target end above 16,777,215 is refused with 11. */
+ * exact half up, and is sample 0 below zero. A target end above 16,777,215 is refused with 11.
+ *
+ * The modified join alone reads pitch targets too. Where a target's f0 is absent, the pitch counted
+ * for the target before it goes on, over several such targets too; for the first it is 120 Hz. A
+ * written 0 is 0 Hz. An absent end or position counts as 0. */
 enum {
     DIPHONE_JOIN_NONE = 0,      /* no periods */
     DIPHONE_JOIN_SIMPLE = 1,    /* each period as long as it is stored */

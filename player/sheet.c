@@ -109,7 +109,7 @@ static float number_of(uint8_t kind, uint32_t word)
     return number;
 }
 
-/* Reads a value; an absent one is 0. */
+/* Reads a value; an absent end is 0. Of a target's values only the form plays a part here. */
 static int read_value(struct reader *reader, float *number)
 {
     size_t start = reader->place;

@@ -283,11 +283,25 @@ def real(number):
 
 
 def number_of(value):
-    """A value as a number; an absent one is 0, a whole one is rounded to f32."""
+    """A value as a number; a whole one is rounded to f32. An absent end or pos is 0; of f0s see f0s_counted."""
     kind, word = value
     if kind == ABSENT:
         return 0.0
     return f32_from_bits(word) if kind == FLOAT else struct.unpack("<f", f32(word))[0]
+
+
+FIRST_F0 = 120.0  # in Hz: the pitch before any target's
+
+
+def f0s_counted(targets):
+    """The pitch of each target as it counts: where the f0 is absent, that of the target before it goes on, 120 for the
+    first."""
+    counted, f0 = [], FIRST_F0
+    for _, value in targets:
+        if value != NONE:
+            f0 = number_of(value)
+        counted.append(f0)
+    return counted
 
 
 EMPTY_NAME = "\\0"

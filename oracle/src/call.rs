@@ -1,6 +1,6 @@
-//! A call as document 01 words it, and document 02 its target ends, as far as
-//! its refusals 16 and 10 to 12 reach: names, units, target ends and marks. The
-//! samples themselves come from the Rust.
+//! A call as document 01 words it, and document 02 its target ends and its targets
+//! without a pitch, as far as its refusals 16 and 10 to 12 reach: names, units,
+//! target ends and marks. The samples themselves come from the Rust.
 
 use crate::ends;
 use crate::phoneset;
@@ -285,7 +285,7 @@ pub fn modified_marks(
     let refusal = walk(contour, |step| {
         let answer = match step {
             Step::Slope(slope) if !slope.is_finite() => Err(Refusal::Slope),
-            Step::Slope(_) => Ok(()),
+            Step::Target | Step::Slope(_) => Ok(()),
             Step::Mark { after, .. } => add_mark(marks, (f64::from(rate) * after) as usize),
         };
         match answer {
@@ -298,6 +298,8 @@ pub fn modified_marks(
 
 /// One thing that happens on the way along a contour.
 enum Step {
+    /// The next target is looked at.
+    Target,
     /// A slope was worked out.
     Slope(f32),
     /// A mark was made; time went from `before` to `after`.
@@ -311,6 +313,9 @@ fn walk<T>(contour: &[(f32, f32)], mut step: impl FnMut(Step) -> ControlFlow<T>)
     let mut last = (0.0f64, 120.0f64);
     for &(pos, f0) in contour {
         let here = (f64::from(pos), f64::from(f0));
+        if let ControlFlow::Break(found) = step(Step::Target) {
+            return Some(found);
+        }
         if time != here.0 && here.0 > last.0 {
             let slope = ((here.1 - last.1) / (here.0 - last.0)) as f32;
             if let ControlFlow::Break(found) = step(Step::Slope(slope)) {
@@ -336,6 +341,28 @@ fn walk<T>(contour: &[(f32, f32)], mut step: impl FnMut(Step) -> ControlFlow<T>)
     None
 }
 
+/// How many marks each target of a contour makes, up to the most in all.
+pub fn made(contour: &[(f32, f32)]) -> Vec<usize> {
+    let mut made = Vec::new();
+    let mut count = 0;
+    walk(contour, |step| {
+        match step {
+            Step::Target => made.push(0),
+            Step::Slope(_) => {}
+            Step::Mark { .. } => {
+                count += 1;
+                *made.last_mut().expect("a target before its marks") += 1;
+            }
+        }
+        match count {
+            MAX_MARKS => ControlFlow::Break(()),
+            _ => ControlFlow::Continue(()),
+        }
+    });
+    made.resize(contour.len(), 0);
+    made
+}
+
 /// How the Rust's own walk along a contour goes, which has no limits.
 #[derive(Clone, Copy, Debug, PartialEq, Eq)]
 pub enum Ending {
@@ -351,7 +378,7 @@ pub enum Ending {
 pub fn ending(contour: &[(f32, f32)]) -> Ending {
     let mut count = 0;
     let found = walk(contour, |step| match step {
-        Step::Slope(_) => ControlFlow::Continue(()),
+        Step::Target | Step::Slope(_) => ControlFlow::Continue(()),
         Step::Mark { before, after } if before == after => {
             ControlFlow::Break(Ending::CannotAdvance)
         }

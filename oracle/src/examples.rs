@@ -1,6 +1,6 @@
 //! The examples that document 01 prints, worked out by the Rust.
 
-use crate::call::{Join, Settings};
+use crate::call::{self, Join, Settings};
 use crate::diphone::access::{self, PlainUnit};
 use crate::diphone::DiphoneVoice;
 use crate::dsp::access::Decoder;
@@ -70,19 +70,49 @@ fn periods(report: &mut Report) {
     report.equal(&[5, 6, 7], &three, || "6 bytes into 3".into());
 }
 
+/// Two targets, then the same with absent f0s: the second takes 64, the first 120.
 fn marks(report: &mut Report) {
-    let target = |pos| Target {
-        pos: Value::float(pos),
-        f0: Value::Whole(64),
-    };
-    let sheet = Sheet {
-        segments: Vec::new(),
-        targets: vec![target(0.0), target(0.0625)],
-    };
+    let (whole, absent) = (Value::Whole, Value::Absent);
+    let cases = [
+        (
+            vec![(0.0, whole(64)), (0.0625, whole(64))],
+            vec![125, 250, 375, 500],
+        ),
+        (
+            vec![(0.0, whole(64)), (0.0625, absent)],
+            vec![125, 250, 375, 500],
+        ),
+        (vec![(0.0, absent), (0.03, absent)], vec![66, 133, 200, 266]),
+        (vec![(0.03, absent)], vec![66, 133, 200, 266]),
+        (vec![(0.0, whole(0)), (0.0625, absent)], vec![]),
+        (
+            vec![
+                (0.0, whole(64)),
+                (0.0, whole(128)),
+                (0.0, absent),
+                (0.03125, absent),
+            ],
+            vec![62, 125, 187, 250],
+        ),
+    ];
     let voice = opened(&two_periods(8000));
-    let marks = access::pitch_marks(&voice, &reference::utterance(&sheet));
-    let expected = vec![125, 250, 375, 500];
-    report.equal(&expected, &marks, || "marks of two targets".into());
+    for (targets, expected) in cases {
+        let target = |(pos, f0): &(f32, Value)| Target {
+            pos: Value::float(*pos),
+            f0: *f0,
+        };
+        let sheet = Sheet {
+            segments: Vec::new(),
+            targets: targets.iter().map(target).collect(),
+        };
+        let marks = access::pitch_marks(&voice, &reference::utterance(&sheet));
+        report.equal(&expected, &marks, || format!("marks of {targets:?}"));
+        let mut ours = Vec::new();
+        let made = call::modified_marks(8000, &sheet.contour(), &mut ours);
+        report.equal(&(Ok(()), expected), &(made, ours), || {
+            format!("marks of {targets:?} by document 01")
+        });
+    }
 }
 
 fn phones(report: &mut Report) {

@@ -5,6 +5,7 @@ use crate::call::{self, Settings};
 use crate::departure::Departure;
 use crate::diphone::DiphoneVoice;
 use crate::dsp;
+use crate::empty_boxes::Boxes;
 use crate::lent::{Buffers, WIDTHS};
 use crate::pairs;
 use crate::period_report::{self, Line};
@@ -52,6 +53,8 @@ pub struct Spoken {
     pub lines: Vec<Line>,
     pub tally: Tally,
     pub departure: Departure,
+    /// Where the sheet has targets without a pitch.
+    pub boxes: Option<Boxes>,
 }
 
 /// What a pull shows: its number, and every byte of its slice afterwards.
@@ -112,8 +115,8 @@ fn parsed(file: &[u8]) -> Box<DiphoneVoice> {
     }
 }
 
-/// The call as the Rust speaks it, in the modified join from rounded target
-/// ends. Nothing where that would take long.
+/// The call as the Rust speaks it, with empty pitch boxes filled in, in the
+/// modified join from rounded target ends. Nothing where that would take long.
 fn speak(
     file: &[u8],
     voice: &Voice,
@@ -138,17 +141,17 @@ fn speak(
         }
         _ => Default::default(),
     };
+    let boxes = Boxes::of(voice, &rust, sheet, settings, &filled, &periods);
     let taking = Taking::new(voice, &rust, &filled, settings.join);
-    Some(spoken(voice, &filled, periods, &taking, departure))
+    Some(Spoken {
+        departure,
+        boxes,
+        ..spoken(voice, &filled, periods, &taking)
+    })
 }
 
-fn spoken(
-    read: &Voice,
-    filled: &Filled,
-    periods: Vec<Vec<i16>>,
-    taking: &Taking,
-    departure: Departure,
-) -> Spoken {
+/// How it stands to the Rust's own is still to come.
+fn spoken(read: &Voice, filled: &Filled, periods: Vec<Vec<i16>>, taking: &Taking) -> Spoken {
     let taken = &taking.expected;
     let residual = &filled.taken.residual;
     let lengths: Vec<usize> = periods.iter().map(Vec::len).collect();
@@ -183,7 +186,8 @@ fn spoken(
         periods,
         lines: lines(filled, taken),
         tally: taking.tally(filled),
-        departure,
+        departure: Departure::default(),
+        boxes: None,
     }
 }
 

@@ -6,9 +6,12 @@ use crate::departure::{self, Departure};
 use crate::diphone::access;
 use crate::diphone::DiphoneVoice;
 use crate::dsp;
+use crate::empty_boxes::{self, Boxes};
 use crate::gen::voices::{self, Extent, Vocabulary, VoiceSpec};
-use crate::gen::{empty_heads, shaped, sheets, target_ends};
+use crate::gen::{empty_heads, pitches, shaped, sheets, target_ends};
 use crate::pairs;
+use crate::pitch_checks;
+use crate::pitches::goes_on;
 use crate::reference::{self, Fitness, Parsed};
 use crate::refusal::{shown, ByNumber, Refusal};
 use crate::report::Report;
@@ -50,6 +53,10 @@ pub struct Counts {
     /// Calls not handed to the Rust: time cannot advance, too many marks, long.
     pub guarded: [u64; 3],
     pub departure: departure::Counts,
+    pub boxes: empty_boxes::Counts,
+    /// Pairs of calls of which one's sheet begins the other's, by join; then those
+    /// with more marks, and those whose longer sheet goes on without a pitch.
+    pub begun: [u64; 5],
 }
 
 /// One case: a voice, its sheets, an extension and longer sheets.
@@ -123,25 +130,32 @@ pub fn run_shaped(seed: u64, case: u64, report: &mut Report, counts: &mut Counts
     }
 }
 
-/// A voice and an extension, a sheet with target ends of each manner in turn, and
-/// a longer one.
+/// A sheet with target ends of each manner in turn, and a longer one.
 pub fn run_ends(seed: u64, case: u64, report: &mut Report, counts: &mut Counts) {
     let rng = &mut Rng::for_case(seed, 4_800_000 + case);
     let (_, spec, first) = target_ends::numbered(rng, case);
     let second = target_ends::longer(rng, &first, &spec);
-    let wider = voices::extension(rng, &spec);
-    let files = [&spec, &wider].map(|spec| voices::file(&spec.sections()));
-    let [Some(old), Some(new)] = [0, 1].map(|i| Opened::new(&files[i], case, report)) else {
-        return;
-    };
     let mut one = Case {
         case,
         report,
         counts,
     };
-    for settings in Settings::loose() {
-        one.law(&old, &new, &first, &second, settings);
-    }
+    one.extended(rng, &spec, &first, &second);
+}
+
+/// A sheet with targets without a pitch in each manner in turn, and a longer one.
+pub fn run_pitches(seed: u64, case: u64, report: &mut Report, counts: &mut Counts) {
+    let rng = &mut Rng::for_case(seed, 4_900_000 + case);
+    let (_, spec, first) = pitches::numbered(rng, case);
+    let second = pitches::longer(rng, &first, &spec);
+    let mut one = Case {
+        case,
+        report,
+        counts,
+    };
+    one.read_back(&first);
+    one.read_back(&second);
+    one.extended(rng, &spec, &first, &second);
 }
 
 /// A voice opened by both readers.
@@ -276,6 +290,7 @@ impl Case<'_> {
         let case = self.case;
         self.report
             .equal(&Ok(sheet.clone()), &found, || format!("case {case}: sheet"));
+        pitch_checks::of_sheet(sheet, self.report);
     }
 
     /// Strict calls, folded and not, are refused with 16 where the Rust finds no
@@ -310,9 +325,23 @@ impl Case<'_> {
         });
     }
 
+    /// The law of two sheets, on a voice and an extension.
+    fn extended(&mut self, rng: &mut Rng, spec: &VoiceSpec, first: &Sheet, second: &Sheet) {
+        let wider = voices::extension(rng, spec);
+        let files = [spec, &wider].map(|spec| voices::file(&spec.sections()));
+        let [Some(old), Some(new)] = [0, 1].map(|i| Opened::new(&files[i], self.case, self.report))
+        else {
+            return;
+        };
+        for settings in Settings::loose() {
+            self.law(&old, &new, first, second, settings);
+        }
+    }
+
     /// Speaks three calls under one setting and compares them by the law on
     /// longer sheets and extended voices.
     fn law(&mut self, old: &Opened, new: &Opened, s: &Sheet, t: &Sheet, settings: Settings) {
+        self.marks_law(new, s, t, settings);
         let first = self.speak(old, s, settings);
         let same = self.speak(new, s, settings);
         let longer = self.speak(new, t, settings);
@@ -333,6 +362,30 @@ impl Case<'_> {
                 format!("case {case}: {settings:?}: a longer sheet begins otherwise")
             });
         }
+    }
+
+    /// Under one voice and settings, where neither call is refused, the Rust's marks
+    /// of a sheet begin those of a longer one. They do not depend on the filter.
+    fn marks_law(&mut self, voice: &Opened, s: &Sheet, t: &Sheet, settings: Settings) {
+        if settings.filter != Some(Filter::Fixed) {
+            return;
+        }
+        let [Some(first), Some(longer)] = [s, t].map(|sheet| rust_marks(voice, sheet, settings))
+        else {
+            return;
+        };
+        let case = self.case;
+        self.report.check(longer.starts_with(&first), || {
+            format!("case {case}: {settings:?}: marks of a longer sheet begin otherwise")
+        });
+        let joins = JOINS.map(|join| usize::from(join == settings.join));
+        let [none, simple, modified] = joins;
+        let more = usize::from(longer.len() > first.len());
+        let goes_on = usize::from(goes_on(s, t)) * modified;
+        add(
+            &mut self.counts.begun,
+            [none, simple, modified, more, goes_on],
+        );
     }
 
     /// The periods of a call, or nothing if it is refused or not run.
@@ -416,6 +469,8 @@ impl Case<'_> {
         let (filled, periods) = spoken?;
         let departure = Departure::of(&voice.rust, sheet, settings, &filled, &periods);
         self.counts.departure.add(&departure);
+        let boxes = Boxes::of(&voice.read, &voice.rust, sheet, settings, &filled, &periods);
+        boxes.iter().for_each(|boxes| self.counts.boxes.add(boxes));
         let taking = Taking::new(&voice.read, &voice.rust, &filled, settings.join);
         // What is filled does not depend on the filter.
         if settings.filter_in() == Filter::Fixed {
@@ -521,6 +576,14 @@ impl Case<'_> {
         });
         add(&mut self.counts.told_twice, [1, takers.len()]);
     }
+}
+
+/// The marks of a call as the Rust makes them, empty boxes filled in. Nothing where
+/// the call is refused, or the Rust would not end soon.
+fn rust_marks(voice: &Opened, sheet: &Sheet, settings: Settings) -> Option<Vec<usize>> {
+    let marks = call::marks(&voice.read, sheet, settings).ok()?;
+    let fitness = reference::fitness(&voice.read, sheet, settings, &marks);
+    (fitness == Fitness::Fit).then(|| reference::fill(&voice.rust, sheet, settings).marks)
 }
 
 fn add<const N: usize>(sums: &mut [u64; N], more: [usize; N]) {

@@ -16,6 +16,7 @@ mod codecs;
 mod departure;
 #[cfg(any(feature = "calls", all(feature = "diphone_c", feature = "probe_call")))]
 mod diphone_c;
+mod empty_boxes;
 mod end_checks;
 mod ends;
 mod examples;
@@ -36,6 +37,8 @@ mod marking;
 mod openings;
 mod pairs;
 mod period_report;
+mod pitch_checks;
+mod pitches;
 #[cfg(feature = "probe")]
 mod probe;
 #[cfg(feature = "probe_call")]

@@ -6,7 +6,9 @@ use crate::call::{self, Ending, Join, Settings};
 use crate::diphone::access;
 use crate::ends;
 use crate::gen::voices::{self, Extent};
-use crate::gen::{damaged_calls, damaged_sheets, end_calls, sheets, target_ends};
+use crate::gen::{damaged_calls, damaged_sheets, end_calls, pitch_calls};
+use crate::gen::{pitches, sheets, target_ends};
+use crate::pitches::{has_empty_box, zeroed};
 use crate::probe_call;
 use crate::reference::{self, Parsed};
 use crate::refusal::Refusal;
@@ -22,6 +24,9 @@ const DAMAGED_SHEETS: u64 = 40;
 
 /// Sheets with target ends of each manner in turn.
 const ENDS: u64 = 600;
+
+/// Sheets with targets without a pitch, in each manner in turn.
+const PITCHES: u64 = 600;
 
 /// A buffer for all marks that a call may have.
 const ROOM: usize = 4 * call::MAX_MARKS + 8;
@@ -41,6 +46,10 @@ struct Counts {
     /// others. Then those with ends that are not its own, and these ends.
     own: [u64; 2],
     rounded: [u64; 2],
+    /// Sheets with an empty pitch box whose marks were compared with the Rust's:
+    /// those with other marks than its own on the sheet as it stands, and with
+    /// the same.
+    boxes: [u64; 2],
 }
 
 pub fn run(args: &Args) -> bool {
@@ -63,7 +72,17 @@ pub fn run(args: &Args) -> bool {
         let file = voices::file(&spec.sections());
         check(&file, &sheet::write(&sheet), &mut report, &mut counts);
     }
-    for call in [damaged_calls::all(), end_calls::all()].concat() {
+    for case in 0..PITCHES {
+        let rng = &mut Rng::for_case(args.seed, 7_600_000 + case);
+        let (_, spec, sheet) = pitches::numbered(rng, case);
+        let file = voices::file(&spec.sections());
+        let longer = pitches::longer(rng, &sheet, &spec);
+        for sheet in [sheet, longer] {
+            check(&file, &sheet::write(&sheet), &mut report, &mut counts);
+        }
+    }
+    let calls = [damaged_calls::all(), end_calls::all(), pitch_calls::all()];
+    for call in calls.concat() {
         check(&call.voice, &call.sheet, &mut report, &mut counts);
     }
     for case in 0..DAMAGED_SHEETS {
@@ -77,9 +96,9 @@ pub fn run(args: &Args) -> bool {
     for limit in damaged_sheets::limits() {
         check_read(&limit.bytes, limit.label, &mut report, &mut counts);
     }
-    let met = [counts.own, counts.rounded].concat();
+    let met = [counts.own, counts.rounded, counts.boxes].concat();
     report.check(!met.contains(&0), || {
-        format!("units by their ends: {met:?}")
+        format!("units by their ends, sheets with empty boxes: {met:?}")
     });
     print(args.seed, cases, &report, &counts);
     report.failures == 0
@@ -168,6 +187,11 @@ fn beside_rust(
     let utt = reference::prepared(sheet, Settings::new(Join::Modified));
     let theirs = access::pitch_marks(&rust, &utt);
     report.equal(&theirs, &found, || "the Rust's marks".to_string());
+    if has_empty_box(sheet) {
+        let ends = call::ending(&zeroed(sheet).contour()) == Ending::Ends;
+        let own = ends.then(|| access::pitch_marks(&rust, &reference::as_it_stands(sheet)));
+        counts.boxes[usize::from(own == Some(theirs))] += 1;
+    }
 }
 
 /// The units, folded and not, are the Rust's, where an end moves with rounded
@@ -260,6 +284,11 @@ fn print(seed: u64, cases: u64, report: &Report, counts: &Counts) {
     println!(
         "  lists of units: {whole} the Rust's own with whole products, {other} its own with \
          others, {rounded} with rounded ends, {ends} of them not its own"
+    );
+    let [other, same] = counts.boxes;
+    println!(
+        "  sheets with targets without a pitch: {other} with other marks than the Rust's own, \
+         {same} with the same"
     );
     let answers: Vec<String> = counts
         .answers

@@ -6,6 +6,7 @@ use crate::diphone::access::{self, Excitation};
 use crate::diphone::{synthesise_streaming, DiphoneVoice};
 use crate::dsp::{self, Flow};
 use crate::ends;
+use crate::pitches;
 use crate::sheet::{Sheet, Value};
 use crate::utterance::{ItemId, Utterance};
 use crate::voice::{JoinType, ResynthType, VoiceParams};
@@ -49,14 +50,19 @@ pub fn quietly<T>(run: impl FnOnce() -> T) -> Option<T> {
     result.ok()
 }
 
-/// A sheet as the Rust's utterance.
+/// A sheet as the Rust's utterance, its empty pitch boxes filled in.
+pub fn utterance(sheet: &Sheet) -> Utterance {
+    as_it_stands(&pitches::filled(sheet))
+}
+
+/// A sheet as it stands: the Rust counts an absent f0 as 0 Hz.
 ///
 /// Every segment first gets a view of its own in `SylStructure`, alone under a
 /// parent. A follower is then put behind that view as one more view of the
 /// segment it names. `item_as` finds the first view made, so it always finds a
 /// segment's own view, and `next` then gives just the follower. So a follower
 /// may point backwards or at the segment itself.
-pub fn utterance(sheet: &Sheet) -> Utterance {
+pub fn as_it_stands(sheet: &Sheet) -> Utterance {
     let mut utt = Utterance::new();
     let segments = add_segments(&mut utt, sheet);
     add_followers(&mut utt, sheet, &segments);
@@ -115,7 +121,7 @@ pub fn fold_ah_to_aa(utt: &mut Utterance) {
     }
 }
 
-/// The utterance of a call, folded where fold is on.
+/// The utterance of a call, empty pitch boxes filled in, folded where fold is on.
 pub fn prepared(sheet: &Sheet, settings: Settings) -> Utterance {
     let mut utt = utterance(sheet);
     if settings.fold {

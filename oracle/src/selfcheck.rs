@@ -3,13 +3,17 @@
 
 use crate::args::Args;
 use crate::call::{self, Settings, JOINS, NAMED};
+use crate::empty_boxes::Boxes;
 use crate::end_checks;
 use crate::examples;
 use crate::expected::{self, Given, Most, SHORT_BUFFER};
 use crate::gen::damaged_calls::{self, LabelledCall};
 use crate::gen::damaged_voices::{self, DamagedVoice, InRust};
-use crate::gen::{damaged_sheets, end_calls, shaped, sheets, strict_calls, voices, Labelled};
+use crate::gen::{
+    damaged_sheets, end_calls, pitch_calls, shaped, sheets, strict_calls, voices, Labelled,
+};
 use crate::good;
+use crate::pitch_checks;
 use crate::reference::{self, Fitness, Parsed};
 use crate::refusal::{numbered, shown, ByNumber, Refusal};
 use crate::report::Report;
@@ -30,6 +34,9 @@ const SHAPED: u64 = 120;
 
 /// Voices with sheets whose target ends are of each manner in turn.
 const ENDS: u64 = 72;
+
+/// Voices with sheets that have targets without a pitch in each manner in turn.
+const PITCHES: u64 = 120;
 
 /// Random voices and sheets that are damaged in every way.
 const DAMAGED_VOICES: u64 = 12;
@@ -58,6 +65,7 @@ pub fn run(args: &Args) -> bool {
     examples::run(&mut report);
     report_examples::run(&mut report);
     end_checks::run(args.seed, &mut report);
+    pitch_checks::run(&mut report);
     for case in 0..args.count.unwrap_or(CASES) {
         good::run(args.seed, case, &mut report, &mut good_counts);
     }
@@ -70,11 +78,15 @@ pub fn run(args: &Args) -> bool {
     for case in 0..ENDS {
         good::run_ends(args.seed, case, &mut report, &mut good_counts);
     }
+    for case in 0..PITCHES {
+        good::run_pitches(args.seed, case, &mut report, &mut good_counts);
+    }
     check_voices(args.seed, &mut report, &mut counts);
     check_sheets(args.seed, &mut report, &mut counts);
     check_calls(&mut report, &mut counts);
     check_strict(&mut report, &mut counts);
     check_ends(&mut report, &mut counts, &mut good_counts);
+    check_pitches(&mut report, &mut counts, &mut good_counts);
     check_reached(&mut report, &counts.damages, &good_counts);
     print(args.seed, &report, &counts, &good_counts);
     report.failures == 0
@@ -195,6 +207,26 @@ fn check_ends(report: &mut Report, counts: &mut Counts, good: &mut good::Counts)
     }
 }
 
+/// Calls with targets without a pitch get their labels; those that are spoken are.
+fn check_pitches(report: &mut Report, counts: &mut Counts, good: &mut good::Counts) {
+    for case in pitch_calls::all() {
+        let LabelledCall {
+            voice,
+            sheet,
+            settings,
+            ..
+        } = &case;
+        let found = check_call(&case, report, counts);
+        let number = found.map_or(0, Refusal::number);
+        let boxes = match expected::given(voice, sheet, *settings, Most::ANY) {
+            Some(Given::Spoken(spoken)) => spoken.boxes,
+            _ => Boxes::refused(voice, sheet, *settings, number),
+        };
+        report.check(boxes.is_some(), || format!("{}: boxes", case.reason));
+        boxes.iter().for_each(|boxes| good.boxes.add(boxes));
+    }
+}
+
 /// The strict call with no name in its voice: refused with 16 if it has a pair
 /// and its files are good.
 fn without_names(call: LabelledCall) -> LabelledCall {
@@ -252,11 +284,12 @@ fn check_reached(report: &mut Report, damages: &ByNumber, good: &good::Counts) {
         let met = damages[number] > 0;
         report.check(met, || format!("number {number} was not reached"));
     }
-    let met = [&good.listed[..], &good.found, &good.strict].concat();
+    let met = [&good.listed[..], &good.found, &good.strict, &good.begun].concat();
     report.check(!met.contains(&0), || {
-        format!("the list, pairs, strict: {met:?}")
+        format!("the list, pairs, strict, sheets that begin others: {met:?}")
     });
     good.departure.check_reached(report);
+    good.boxes.check_reached(report);
 }
 
 fn print(seed: u64, report: &Report, counts: &Counts, good: &good::Counts) {
@@ -328,6 +361,12 @@ fn print_calls(good: &good::Counts) {
          without units, {long} too long"
     );
     println!("  laws on longer sheets and extended voices: {}", good.laws);
+    let [none, simple, modified, more, goes_on] = good.begun;
+    println!(
+        "  marks of a sheet that begins another: join none {none}, simple {simple}, \
+         modified {modified}; {more} with more marks behind, {goes_on} of the modified join that \
+         go on without a pitch"
+    );
     let [calls, marks] = good.told_twice;
     println!("  units that take the marks told unit by unit too: {calls} calls, {marks} marks");
     let [periods, calls, rows] = good.listed;
@@ -335,6 +374,7 @@ fn print_calls(good: &good::Counts) {
         "  simple join: {periods} periods on the list in {calls} calls, {rows} rows not the Rust's"
     );
     good.departure.print();
+    good.boxes.print();
 }
 
 /// Those that are refused.

@@ -1,6 +1,7 @@
 //! A call sheet, read and written as document 01 words it. Reading stops at
 //! the first 8 or 9 in reading order.
 
+use crate::pitches;
 use crate::refusal::Refusal;
 
 const MAX_COUNT: usize = 4096;
@@ -55,10 +56,10 @@ impl Sheet {
         self.segments.starts_with(&other.segments) && self.targets.starts_with(&other.targets)
     }
 
-    /// The targets as (pos, f0).
+    /// The targets as (pos, f0), each as it is counted.
     pub fn contour(&self) -> Vec<(f32, f32)> {
         let pair = |target: &Target| (target.pos.as_f32(), target.f0.as_f32());
-        self.targets.iter().map(pair).collect()
+        pitches::filled(self).targets.iter().map(pair).collect()
     }
 }
 

@@ -1,6 +1,7 @@
 /* Makes document 01's example call through the C interface: what it needs, its plan, its pulls, its
- * report; then calls with empty periods, calls whose phones end between two samples, calls that name no
- * filter, strict calls, and calls and pulls that are refused. Ends with 0 if all is as it should be. */
+ * report; then calls with empty periods, calls whose phones end between two samples, calls with targets
+ * without a pitch, calls that name no filter, strict calls, and calls and pulls that are refused. Ends with 0
+ * if all is as it should be. */
 #define TEST "call"
 #include "example.h"
 
@@ -21,7 +22,7 @@ enum {
 
 /* ---- sheets: the segments pau and aa */
 
-static uint8_t sheet[64];
+static uint8_t sheet[80];
 static size_t sheet_length;
 
 static void sheet_bytes(const void *data, size_t count)
@@ -665,6 +666,122 @@ static void between_samples(void)
     }
 }
 
+/* ---- targets without a pitch, in the modified join */
+
+enum { MOST_TARGETS = 4, MOST_MARKS = 8 };
+
+/* A pitch as a value of a sheet. */
+struct pitch {
+    uint8_t kind;
+    uint32_t word;
+};
+
+#define ABSENT {2, 0}
+#define HZ_64 {1, 0x42800000}
+#define HZ_120 {1, 0x42F00000}
+
+/* Where targets stand, in seconds; their pitches, as the sheet has them and with the absent ones filled in; the
+ * marks. */
+struct pitched {
+    const char *what;
+    uint32_t targets;
+    float places[MOST_TARGETS];
+    struct pitch written[MOST_TARGETS], filled[MOST_TARGETS];
+    uint32_t marks, at[MOST_MARKS];
+};
+
+static const struct pitched pitched_calls[] = {
+    {"the first", 1, {0.03f}, {ABSENT}, {{0, 120}}, 4, {66, 133, 200, 266}},
+    {"the second", 2, {0, 0.0625f}, {HZ_64, ABSENT}, {HZ_64, HZ_64}, 4, {125, 250, 375, 500}},
+    {"a whole number goes on", 2, {0, 0.0625f}, {{0, 64}, ABSENT}, {HZ_64, HZ_64}, 4, {125, 250, 375, 500}},
+    {"several in turn",
+     4,
+     {0, 0.01f, 0.02f, 0.0625f},
+     {HZ_64, ABSENT, ABSENT, ABSENT},
+     {HZ_64, HZ_64, HZ_64, HZ_64},
+     4,
+     {125, 250, 375, 500}},
+    {"the first two, then a pitch",
+     3,
+     {0, 0.0125f, 0.0625f},
+     {ABSENT, ABSENT, HZ_64},
+     {HZ_120, HZ_120, HZ_64},
+     7,
+     {66, 133, 202, 278, 362, 458, 573}},
+    {"one that makes no mark, then one that does", /* the first mark is past it */
+     4,
+     {0, 0.001f, 0.002f, 0.0625f},
+     {{0, 128}, HZ_64, ABSENT, ABSENT},
+     {{0, 128}, HZ_64, HZ_64, HZ_64},
+     5,
+     {62, 187, 312, 437, 562}},
+    {"a written 0 goes on", /* it ends the marks */
+     3,
+     {0.01f, 0.02f, 0.06f},
+     {HZ_120, {0, 0}, ABSENT},
+     {HZ_120, {1, 0}, {1, 0}},
+     3,
+     {66, 133, 333}},
+};
+
+/* The first targets of a call; both phones end at sample 250. */
+static void pitched_sheet(const struct pitched *pitched, const struct pitch *pitches, uint32_t targets)
+{
+    uint8_t count = (uint8_t)targets;
+
+    sheet_length = 0;
+    sheet_bytes("\x02\x03pau\x01\x00\x00\x00\x3D\x00\x02"
+                "aa\x01\x00\x00\x00\x3D\x00",
+                20);
+    sheet_bytes(&count, 1);
+    for (uint32_t i = 0; i < targets; i += 1) {
+        sheet_bytes("\x01", 1);
+        sheet_bytes(&pitched->places[i], 4);
+        value(pitches[i].kind, pitches[i].word);
+    }
+}
+
+/* All that a call answers and leaves is as with the pitches filled in. */
+static void filled_in(const struct pitched *pitched)
+{
+    for (uint32_t join = NONE; join <= 3; join += 1)
+        for (uint32_t filter = UNNAMED; filter <= FILTER_BITS; filter += FIXED) {
+            pitched_sheet(pitched, pitched->filled, pitched->targets);
+            exact(join);
+            take_all(join | filter, said[0]);
+            pitched_sheet(pitched, pitched->written, pitched->targets);
+            take_all(join | filter, said[1]);
+            expect(memcmp(said[0], said[1], sizeof said[0]) == 0, pitched->what);
+        }
+}
+
+/* The marks are these; those of the first targets alone are the first of them. */
+static void pitched_marks(const struct pitched *pitched)
+{
+    uint32_t marks = 0;
+
+    for (uint32_t targets = 0; targets <= pitched->targets; targets += 1) {
+        pitched_sheet(pitched, pitched->written, targets);
+        exact(MODIFIED);
+        expect(plan(MODIFIED) == 0, pitched->what);
+        expect(lengths[MARKS] / 4 >= marks, pitched->what);
+        marks = (uint32_t)(lengths[MARKS] / 4);
+        expect(u64_at(lent[SUMMARY], 24) == marks && marks <= pitched->marks, pitched->what);
+        for (uint32_t i = 0; i < marks; i += 1)
+            expect(u32_at(MARKS, 4 * i) == pitched->at[i], pitched->what);
+        past(MARKS, 4 * marks);
+    }
+    expect(marks == pitched->marks, pitched->what);
+}
+
+static void pitched_each(void)
+{
+    for (size_t i = 0; i < sizeof pitched_calls / sizeof *pitched_calls; i += 1) {
+        filled_in(&pitched_calls[i]);
+        pitched_marks(&pitched_calls[i]);
+    }
+}
+
 /* ---- refused calls */
 
 /* Need, plan and report refuse with this number whatever the buffers are, and leave all. */
@@ -1014,6 +1131,7 @@ int main(void)
     alike();
     ended_calls();
     between_samples();
+    pitched_each();
     no_join();
     four_marks();
     g721();

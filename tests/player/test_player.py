@@ -669,6 +669,143 @@ class Filter(InFolder):
             self.assertTrue(twice == run(*YARD, f"--filter={last}"), last)
 
 
+# Places of targets, their pitches (None is an empty box), and these filled in; and whether 0 in the empty boxes gives
+# another call.
+EMPTY_BOXES = {
+    "the first": ((0.4, 1), (None, 84), (120, 84), True),
+    "one alone": ((1,), (None,), (120.0,), True),
+    "in the middle": ((0, 0.5, 1), (132, None, 90), (132, 132, 90), True),
+    "the last": ((0, 1), (99.5, None), (99.5, 99.5), True),
+    "several": ((0, 0.2, 0.4, 0.6, 1), (90, None, None, None, 140), (90, 90, 90, 90, 140), True),
+    "all": ((0.1, 0.2, 0.6, 1), (None, None, None, None), (120, 120, 120, 120), True),
+    "all but the last": ((0.1, 0.2, 0.6, 1), (None, None, None, 80), (120, 120, 120, 80), True),
+    "one that makes no mark, then one that does": ((0, 0.001, 0.002, 1), (90, 70, None, None), (90, 70, 70, 70), True),
+    "a place before the last one": ((0.5, 0.2, 1), (90, None, 80), (90, 90, 80), True),
+    "after a written 0": ((0, 0.3, 0.6, 1), (90, 0, None, 90), (90, 0, 0, 90), False),
+    "after a float 0": ((0, 0.3, 1), (90, 0.0, None), (90, 0.0, 0.0), False),
+    "after one below zero": ((0, 0.3, 1), (90, -9, None), (90, -9, -9), False),
+    "soon": ((1e-40, 1), (None, 90), (120, 90), True),  # a leap to 0 is refused with 10
+}
+
+
+def boxes(pitches):
+    """Values of a sheet: whole numbers, floats, and None where there is none."""
+    return [NONE if f0 is None else real(f0) if isinstance(f0, float) else whole(f0) for f0 in pitches]
+
+
+class Pitch(InFolder):
+    """An empty pitch box means that the last pitch goes on, at first 120 Hz. A written 0 is 0 Hz."""
+
+    PHONES = [Segment(name, real(end)) for name, end in ((b"pau", 0.2), (b"n", 0.5), (b"ay", 0.8), (b"n", 1))]
+
+    def told_of(self, targets, *words):
+        call = self.file("call.sht", sheet(self.PHONES, targets))
+        return self.told((YARD[0], call), *words)
+
+    def test_filled_in(self):
+        """In everything the call is that of the sheet with the boxes filled in. Only the modified join reads them."""
+        for (what, (places, empty, filled, heard)), how in zip(EMPTY_BOXES.items(), itertools.cycle(FILTERS)):
+            zeros = [0 if f0 is None else f0 for f0 in empty]
+            sheets = [list(map(Target, map(real, places), boxes(f0s))) for f0s in (empty, filled, zeros)]
+            told, full, zero = (self.told_of(targets, *how) for targets in sheets)
+            self.assertTrue(told == full, what)  # unittest takes minutes to show how long texts differ
+            self.assertEqual({done[0] for done, _ in told}, {0}, what)
+            self.assertEqual(told != zero, heard, what)
+            words = "--join=simple", *how
+            self.assertTrue(self.told_of(sheets[0], *words) == self.told_of(sheets[2], *words), what)
+
+    def test_refused(self):
+        """What is refused with the box filled in is refused with the empty box."""
+        for number, targets in [
+            (12, [(0, whole(60_000)), (2, NONE)]),
+            (11, [(0, real(1e-4)), (1, NONE)]),
+            (10, [(0, NONE), (1e-40, NONE), (2e-40, whole(1000))]),
+        ]:
+            call = self.file("call.sht", sheet(self.PHONES, [Target(real(place), f0) for place, f0 in targets]))
+            status, text, message = run(YARD[0], call)
+            self.assertEqual((status, text), (1, b""))
+            self.assertTrue(message.startswith(f"player: refused {number}: {call} "), message)
+
+    def test_nearest_float(self):
+        """The f32 goes on, not the whole number: marks fall on a sample as its periods of 2 to the -24 seconds do."""
+        voice = self.file("voice.flv", voice_of_halves(16384))
+        phones = [Segment(b"a", whole(1))] * 2
+        done = []
+        for written, second in [(whole(16777217), NONE), (real(16777216), real(16777216))]:
+            targets = [Target(NONE, written), Target(real(2048 / 2**24), second)]
+            done.append(run(voice, self.file("call.sht", sheet(phones, targets)), "--report"))
+        self.assertTrue(done[0] == done[1])
+        lines = [line.split() for line in done[0][1].splitlines()]
+        sizes = {int(number): int(size) for number, _, _, _, size, *_ in lines if size != b"0"}
+        self.assertEqual((len(lines), sizes), (2048, {1024: 1, 2048: 1}))
+
+    def test_shortest(self):
+        """18 bytes: a target at 1/80 s without a pitch. At 120 Hz the second mark is 133, of those up to 200."""
+        call = self.file("call.sht", sheet([Segment(b""), Segment(b"", real(0.05))], [Target(real(0.0125))]))
+        self.assertEqual(call.read_bytes().hex(), "0200020000" + "01cdcc4c3d" + "00" + "01" + "01cdcc4c3c" + "02")
+        lines = b"1 1 2 0 66 \\0 \\0\n2 1 2 66 67 \\0 \\0\n"
+        self.assertEqual(run(EXAMPLE[0], call, "--report")[:2], (0, lines))
+
+    def test_many(self):
+        """4,096 empty boxes are one long pitch."""
+        targets = [Target(real(number / 4096)) for number in range(1, 4097)]
+        self.assertTrue(self.told_of(targets) == self.told_of([Target(whole(1), whole(120))]))
+
+    def test_random(self):
+        draw, differ = random.Random(7), 0
+        for _ in range(60):
+            places = sorted(draw.uniform(-0.1, 1.1) for _ in range(draw.randrange(1, 9)))
+            empty = [draw.choice([None, draw.randrange(60, 200), draw.uniform(60, 200)]) for _ in places]
+            filled = list(itertools.accumulate([120, *empty], lambda last, f0: last if f0 is None else f0))[1:]
+            zeros = [0 if f0 is None else f0 for f0 in empty]
+            sheets = [list(map(Target, map(real, places), boxes(f0s))) for f0s in (empty, filled, zeros)]
+            calls = [self.file(f"{number}.sht", sheet(self.PHONES, targets)) for number, targets in enumerate(sheets)]
+            told, full, zero = (run(YARD[0], call, "--raw") for call in calls)
+            self.assertTrue(told == full, (places, empty))
+            differ += told != zero
+        self.assertGreater(differ, 30)
+
+    def test_longer_sheet(self):
+        """A sheet that goes on begins with the samples of the shorter one, whose last pitches went on."""
+        phones = [*self.PHONES, Segment(b"b", real(1.3)), Segment(b"ih", real(1.6))]
+        targets = list(map(Target, map(real, (0, 0.4, 0.8, 1.7, 2)), boxes((116, None, None, None, 84))))
+        calls = [self.file(f"{count}.sht", sheet(phones[:count], targets[: count - 1])) for count in (4, 5, 6)]
+        spoken = [run(YARD[0], call, "--raw")[1] for call in calls]
+        for shorter, longer in zip(spoken, spoken[1:]):
+            self.assertTrue(8000 < len(shorter) < len(longer))
+            self.assertTrue(longer.startswith(shorter))
+
+    def test_places(self):
+        """An absent place counts 0 all the same, as does an absent end: neither goes on."""
+        for places, zeros in [
+            ((NONE, real(1)), (whole(0), real(1))),
+            ((real(0.5), NONE, real(1)), (real(0.5), real(0), real(1))),
+        ]:
+            f0s = whole(100), NONE, whole(80)
+            told, zero = (self.told_of(list(map(Target, which, f0s))) for which in (places, zeros))
+            self.assertTrue(told == zero)
+            self.assertEqual({done[0] for done, _ in told}, {0})
+        targets = [Target(whole(0), whole(100)), Target(whole(1))]
+        for end in (NONE, whole(0)):
+            phones = [*self.PHONES[:2], Segment(b"ay", end), self.PHONES[3]]
+            lines = run(YARD[0], self.file("call.sht", sheet(phones, targets)), "--ends")[1].splitlines()
+            self.assertEqual(lines[2].split()[:3], [b"3", b"ay", b"0"])
+
+    def test_text(self):
+        """A person's way: a text with empty boxes, made a sheet, spoken, and read back with what goes on."""
+        text = "".join(f"segment {name.decode()} float {number_of(end):.3g} -\n" for name, end, _ in self.PHONES)
+        sheets = []
+        for boxes in (("-", "int 95", "-"), ("int 120", "int 95", "int 95")):
+            lines = text + "".join(f"target float {place} {f0}\n" for place, f0 in zip((0.2, 0.6, 1), boxes))
+            command = [REPO / "tools/sheet", "encode", "-", "-"]
+            done = subprocess.run(command, input=lines.encode(), stdout=subprocess.PIPE, check=True)
+            sheets.append(done.stdout)
+        self.assertEqual(read_sheet(sheets[0])[1][0].f0, NONE)
+        told, full = (run(YARD[0], self.file("call.sht", data)) for data in sheets)
+        self.assertTrue(told == full)
+        self.assertGreater(len(told[1]), 10_000)
+
+
 class Notes(InFolder):
     """What a person is told on standard error; the call is spoken as the engine does."""
 

@@ -5,6 +5,7 @@ import importlib.machinery
 import importlib.util
 import io
 import itertools
+import math
 import random
 import re
 import struct
@@ -23,6 +24,22 @@ DOCUMENT_TEXT = """\
 segment pau  -            -
 segment aa   -            -
 # target POS F0
+"""
+PITCHES_TEXT = """\
+# segment NAME END FOLLOWER
+segment #    -            -
+# target POS F0
+target -            -            # 120 Hz to begin with
+target int 1        -            # 120 Hz goes on
+target int 2        int 95
+target float 2.5    -            # 95 Hz goes on
+target int 3        int 0
+target int 4        -            # 0 Hz goes on
+target int 5        -            # 0 Hz goes on
+target int 6        int 16777217
+target int 7        -            # 16777216 Hz goes on
+target int 8        float 0.1
+target float 0.33333334 -        # 0.1 Hz goes on
 """
 
 
@@ -95,6 +112,23 @@ def random_sheet(draw, segments, targets):
     return sheet(parts, [Target(random_value(draw), random_value(draw)) for _ in range(targets)])
 
 
+# The f0s of targets, and as they count.
+PITCHES = [
+    ([], []),
+    ([NONE], [120]),
+    ([NONE, NONE, NONE], [120, 120, 120]),
+    ([NONE, whole(95), NONE], [120, 95, 95]),
+    ([whole(95), NONE, NONE, whole(80), NONE], [95, 95, 95, 80, 80]),
+    ([formats.real(99.5), NONE, NONE], [99.5, 99.5, 99.5]),
+    ([whole(0), NONE, whole(95)], [0, 0, 95]),
+    ([formats.real(0), NONE], [0, 0]),
+    ([whole(95), whole(0), NONE, NONE], [95, 0, 0, 0]),
+    ([whole(-3), NONE], [-3, -3]),
+    ([whole(16777217), NONE], [16777216, 16777216]),  # the nearest f32 goes on
+    ([bits(1), NONE], [2**-149, 2**-149]),
+]
+
+
 class Formats(unittest.TestCase):
     """What is written, byte by byte, by hand; the reader is held to the writer by the round trips."""
 
@@ -136,6 +170,14 @@ class Formats(unittest.TestCase):
         values = {whole(16777217): 16777216.0, NONE: 0.0, formats.real(0.1): 0.10000000149011612}
         for value, number in values.items():
             self.assertEqual(formats.number_of(value), number)
+
+    def test_pitches(self):
+        """Where there is none the last one goes on, 120 Hz at first; a written 0 is one."""
+        for f0s, counted in PITCHES:
+            for pos in (NONE, whole(1), formats.real(-0.5)):
+                self.assertEqual(formats.f0s_counted([Target(pos, f0) for f0 in f0s]), counted, f0s)
+        minus = formats.f0s_counted([Target(NONE, bits(0x80000000)), Target()])
+        self.assertEqual([math.copysign(1, f0) for f0 in minus], [-1, -1])
 
 
 class Sheet(unittest.TestCase):
@@ -181,9 +223,51 @@ class Sheet(unittest.TestCase):
 
     def test_shortest(self):
         words = {0x3DCCCCCD: "0.1", 0x42F00000: "120", 1: "1e-45", 0x80000000: "-0", 0x3EAAAAAB: "0.33333334"}
-        text = decode(sheet([], [Target(bits(word)) for word in words]))[1].decode()
-        lines = [f"target {'float ' + word:<12} -" for word in words.values()]
+        text = decode(sheet([], [Target(bits(word), whole(5)) for word in words]))[1].decode()
+        lines = [f"target {'float ' + word:<12} int 5" for word in words.values()]
         self.assertEqual(text.splitlines()[2:], lines)
+
+    def test_pitches(self):
+        """Behind an absent one a comment tells which goes on; what is written has none."""
+        targets = [Target(), Target(whole(1)), Target(whole(2), whole(95)), Target(formats.real(2.5))]
+        targets += [Target(whole(3), whole(0)), Target(whole(4)), Target(whole(5)), Target(whole(6), whole(16777217))]
+        targets += [Target(whole(7)), Target(whole(8), formats.real(0.1)), Target(formats.real(1 / 3))]
+        data = sheet([Segment(b"#")], targets)
+        self.assertEqual(decode(data), (0, PITCHES_TEXT.encode(), ""))
+        self.assertEqual(encode(PITCHES_TEXT), (0, data, ""))
+        bare = re.sub(" *# [-0-9.]+ Hz .*", "", PITCHES_TEXT)
+        self.assertNotIn("Hz", bare)
+        self.assertEqual(encode(bare), (0, data, ""))
+        for f0s, counted in PITCHES:
+            lines = decode(sheet([], [Target(NONE, f0) for f0 in f0s]))[1].decode().splitlines()[2:]
+            told = [formats.real(float(line.split("#")[1].split()[0])) for line in lines if "#" in line]
+            self.assertEqual(list(map(formats.number_of, told)), [number for f0, number in zip(f0s, counted) if f0 == NONE])
+
+    def test_comments(self):
+        """Behind a target: from a word that begins with # on. A segment has none, as its name may begin so."""
+        data = sheet([], [Target(whole(1), whole(95)), Target()])
+        for lines in ("target int 1 int 95 # - -\ntarget - - #", "target int 1 int 95 #-\r\n target - - ## int 5 \n#\n"):
+            self.assertEqual(encode(lines), (0, data, ""))
+        self.assertEqual(encode("segment # - -\nsegment #a - -"), (0, sheet([Segment(b"#"), Segment(b"#a")]), ""))
+        for line, why in {
+            "target - # -": "the f0 (- where the last pitch goes on) is missing",
+            "target int 1": "the f0 (- where the last pitch goes on) is missing",
+            "target # - -": "the pos is missing",
+            "target int # 5 -": "the pos is missing",
+            "target - -# x": "-# is no value: int N, float X or -",
+            "target - - x # y": "x is one word too many",
+            "segment n - - # x": "# is one word too many; a comment stands in a line of its own, or behind a target",
+            "segment n - # x": "# is no follower: a whole number from 0 to 4096",
+            "segment n # x": "# is no value: int N, float X or -",
+        }.items():
+            status, data, message = encode(line)
+            self.assertEqual((status, data), (1, b""), line)
+            self.assertIn(f": line 1: {why}\n", message)
+
+    def test_help(self):
+        status, text, _ = run("sheet", "--help")
+        self.assertEqual(status, 0)
+        self.assertIn("absent: an END or POS counts as 0; an F0 goes on with the pitch counted for the target", text)
 
     def test_streams(self):
         data = (EXAMPLES / "example.sht").read_bytes()
@@ -390,11 +474,14 @@ def spoken(samples, rate=8000, size=80):
     return lines + [" ".join(map(str, [number, len(period), *period])) for number, period in enumerate(periods, 1)]
 
 
-def long_call(seconds, with_ends=False):
-    """A call of many short phones and targets; each phone really ends 80 samples early, but for the last."""
+def long_call(seconds, with_ends=False, few_pitches=False):
+    """A call of many short phones and targets; each phone really ends 80 samples early, but for the last. With few pitches
+    two of three targets have none."""
     numbers = range(seconds * 20)
     phones = [Segment(b"pau", formats.real(number * 0.05 + 0.05)) for number in numbers]
     targets = [Target(formats.real(number * 0.05), formats.real(100 + number % 7 / 3)) for number in numbers]
+    if few_pitches:
+        targets = [target._replace(f0=NONE) if number % 3 != 2 else target for number, target in enumerate(targets)]
     call = DRAW.Call((phones, targets), spoken([32767, -32768] * (4000 * seconds)))
     if with_ends:
         reached = [400 * number - 80 for number in range(1, seconds * 20)] + [8000 * seconds]
@@ -425,8 +512,8 @@ class Draw(unittest.TestCase):
 
     def test_nothing_leaves(self):
         """Points and boxes lie on the paper, waves within their bands, for the loudest samples too."""
-        for seconds, width, ends in itertools.product((1, 5, 30), (960, 300, 2000), (False, True)):
-            picture = self.drawn(long_call(seconds, ends), width=width)
+        for seconds, width, *more in itertools.product((1, 5, 30), (960, 300, 2000), (False, True), (False, True)):
+            picture = self.drawn(long_call(seconds, *more), width=width)
             right, bottom = int(picture.get("width")), int(picture.get("height"))
             self.assertEqual(right, width)
             tops = {}
@@ -442,9 +529,9 @@ class Draw(unittest.TestCase):
             self.assertTrue(all(abs(low - top - heights[seconds]) <= 0.2 for top, low in tops.items()), tops)
 
     def test_labels_apart(self):
-        for seconds, ends in itertools.product((1, 5, 30), (False, True)):
+        for seconds, *more in itertools.product((1, 5, 30), (False, True), (False, True)):
             lines = collections.defaultdict(list)
-            for part in self.drawn(long_call(seconds, ends)).iter("{http://www.w3.org/2000/svg}text"):
+            for part in self.drawn(long_call(seconds, *more)).iter("{http://www.w3.org/2000/svg}text"):
                 kind, x, length = part.get("class"), float(part.get("x")), DRAW.width_of(part.text, part.get("class"))
                 shift = 0 if "left" in kind else length if "right" in kind or "name" in kind else length / 2
                 lines[part.get("y")].append((x - shift, x - shift + length))
@@ -477,6 +564,64 @@ class Draw(unittest.TestCase):
         self.assertEqual(len(self.drawn(call).findall(".//*[@class='box']")), 2)
         other = DRAW.Call(formats.read_sheet(files[1]), ["8000 1 5", "1 5 0 0 0 0 0"], DRAW.Voice(files[0]))
         self.assertFalse(other.simple)
+
+    def dots(self, picture):
+        """Class, place and height of each dot."""
+        return [tuple(part.get(name) for name in ("class", "cx", "cy")) for part in picture if part.get("r")]
+
+    def test_pitches(self):
+        """Where there is none, a hollow dot where the last goes on, and words that say so."""
+        for f0s, words in [
+            ([NONE], ["120 goes on"]),
+            ([NONE, NONE, NONE], ["120 goes on", "goes on", "goes on"]),
+            ([whole(95), NONE, NONE, whole(80), NONE], ["95", "80", "goes on", "goes on", "goes on"]),
+            ([NONE, whole(0), NONE, whole(95)], ["0", "95", "120 goes on", "goes on"]),
+        ]:
+            places = [formats.real(number / len(f0s)) for number in range(len(f0s))]
+            filled = map(formats.real, formats.f0s_counted([Target(NONE, f0) for f0 in f0s]))
+            pictures = []
+            for pitches in (f0s, filled):
+                targets = list(map(Target, places, pitches))
+                call = DRAW.Call(([Segment(b"pau", whole(1))], targets), spoken([100, -100] * 4000))
+                pictures.append(self.drawn(call, zoom=9))
+            line, full = ([part.get("points") for part in picture if part.get("class") == "line"] for picture in pictures)
+            self.assertEqual(line, full)
+            dots, full = map(self.dots, pictures)
+            self.assertEqual(sorted(dot[1:] for dot in dots), sorted(dot[1:] for dot in full))
+            kinds = collections.Counter(dot[0] for dot in dots)
+            self.assertEqual((kinds["hollow"], kinds["dot"]), (f0s.count(NONE), len(f0s) - f0s.count(NONE)))
+            texts = [part.text for part in pictures[0] if part.get("class") == "note left"]
+            self.assertTrue(texts[1].startswith("hollow dots: "), texts)
+            self.assertEqual(texts[2 : 2 + len(words)], words)
+            whole_text = ElementTree.tostring(pictures[1], "unicode")
+            self.assertFalse("hollow" in whole_text or "goes on" in whole_text)
+
+    def test_pitch_from_the_beginning(self):
+        """Where the first target has none, the line comes level from the beginning of the call."""
+        for f0, lines in ((NONE, 1), (whole(120), 0)):
+            target = Target(formats.real(0.5), f0)
+            call = DRAW.Call(([Segment(b"pau", whole(1))], [target]), spoken([100, -100] * 4000))
+            picture = self.drawn(call, zoom=9)
+            drawn = [part.get("points").replace(",", " ").split() for part in picture if part.get("class") == "line"]
+            self.assertEqual(len(drawn), lines)
+            for points in drawn:
+                x, y = map(float, self.dots(picture)[0][1:])
+                self.assertEqual(list(map(float, points)), [DRAW.LEFT, y, x, y])
+
+    def test_pitches_of_parts(self):
+        """In each row the first says which pitch goes on. What is not drawn is not explained."""
+        phones = [Segment(b"pau", formats.real(5))]
+        targets = [Target(NONE, whole(95)), *(Target(whole(number)) for number in (1, 3, 5))]
+        call = DRAW.Call((phones, targets), spoken([100, -100] * 20000))
+        texts = [part.text for part in self.drawn(call) if part.get("class") == "note left"]
+        self.assertEqual([text for text in texts if "goes on" in text][1:], ["goes on", "95 goes on", "95 goes on"])
+        self.assertNotIn("hollow", "".join(self.drawn(call, 0, 0.9).itertext()))
+        self.assertIn("hollow", "".join(self.drawn(call, 0, 1.1).itertext()))
+        call.take_ends(phones, ends_text([b"pau"], [40000]))
+        texts = [part for part in self.drawn(call) if part.get("class") == "note left"][:3]
+        self.assertEqual([part.text.split(":")[0] for part in texts[1:]], ["hollow dots", "solid lines"])
+        top = min(float(part.get("y")) for part in self.drawn(call) if part.get("class") == "box")
+        self.assertLess(float(texts[2].get("y")), top)
 
     def test_ends(self):
         """A box for each phone as spoken, with the sample where it ends, and a line there through the samples."""
@@ -621,6 +766,19 @@ class Pages(unittest.TestCase):
         self.assertEqual(list(cited(source, "pub fn f() ensures { second }\n{")), [("a", "One")])
         self.assertEqual(list(cited(source, "ensures { two.third }")), [("b", "Two")])
         self.assertEqual(list(cited(source, "ensures { third }")), [])
+
+
+class Papers(unittest.TestCase):
+    def test_formats(self):
+        """The commands of docs/FORMATS.md that need no player print what stands below them."""
+        text = (REPO / "docs/FORMATS.md").read_text()
+        found = re.findall(r"^    \$ (.*)\n((?:    [^$\n].*\n)+)", text, re.MULTILINE)
+        found = [(command, printed.replace("    ", "", 1).replace("\n    ", "\n")) for command, printed in found]
+        found = [example for example in found if not example[0].startswith("player ")]
+        self.assertEqual(len(found), 3)
+        for command, printed in found:
+            done = subprocess.run(command, shell=True, cwd=REPO, stdout=subprocess.PIPE, check=False)
+            self.assertEqual(done.stdout.decode(), printed, command)
 
 
 class Examples(unittest.TestCase):

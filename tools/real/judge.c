@@ -136,13 +136,20 @@ static void find_first(struct verdict *verdict, const cst_wave *wave, const stru
 
 /* ---- verdicts */
 
+/* A fresh utterance as flite can speak it. */
+static cst_utterance *make_filled(const struct call *call) {
+    cst_utterance *utterance = call->make(call->from);
+    fill_pitches(utterance);
+    return utterance;
+}
+
 /* Mends flite place by place: a mend that changes periods or samples is a cause. With all places mended
    flite must be alike. */
 static void explain(struct verdict *verdict, const struct call *call, const struct ours *ours,
                     const struct setting *setting, const cst_utterance *plain) {
     cst_utterance *mended = NULL;
     for (int what = 0; what < MENDS; what++) {
-        cst_utterance *next = call->make(call->from);
+        cst_utterance *next = make_filled(call);
         speak_in_steps(next, setting, what + 1, ours->periods, verdict->changed);
         if (!same_sound(next, mended == NULL ? plain : mended))
             verdict->cause[what] = verdict->changed[what];
@@ -157,7 +164,7 @@ static void explain(struct verdict *verdict, const struct call *call, const stru
 
 /* The steps must be what flite itself does. */
 static void check_steps(const struct call *call, const struct setting *setting, const cst_wave *wave) {
-    cst_utterance *utterance = call->make(call->from);
+    cst_utterance *utterance = make_filled(call);
     if (speak_by_features(utterance, setting)) {
         const cst_wave *own = utt_wave(utterance);
         if (own->num_samples != wave->num_samples ||
@@ -186,6 +193,7 @@ struct verdict judge(const struct call *call, const struct setting *setting) {
     struct ours ours = {0};
     cst_utterance *utterance = call->make(call->from);
     struct bytes sheet = sheet_bytes(utterance);
+    verdict.filled = fill_pitches(utterance);
     verdict.refusal = speak_ours(&ours, call->voice, &sheet, setting);
     if (verdict.refusal == 0)
         compare(&verdict, call, &ours, setting, utterance);
@@ -223,6 +231,7 @@ void take_verdict(struct tally *tally, const struct verdict *verdict, const char
     for (int mend = 0; mend < MENDS; mend++)
         tally->changed[mend] += verdict->changed[mend];
     tally->calls++;
+    tally->filled += verdict->filled > 0;
     tally->samples += verdict->samples;
     tally->equal += (size_t)verdict->equal;
     tally->but_round += (size_t)but_round;
@@ -232,7 +241,8 @@ void take_verdict(struct tally *tally, const struct verdict *verdict, const char
 }
 
 static void print_tally(const struct setting *setting, const struct tally *tally) {
-    printf("%-16s %6zu %9zu %6zu %9zu", setting->name, tally->calls, tally->samples, tally->equal, tally->but_round);
+    printf("%-16s %6zu %6zu %9zu %6zu %9zu", setting->name, tally->calls, tally->filled, tally->samples, tally->equal,
+           tally->but_round);
     for (int cause = 0; cause < CAUSES; cause++)
         printf(" %7zu", tally->cause[cause]);
     printf(" %11zu ", tally->unexplained);
@@ -242,7 +252,7 @@ static void print_tally(const struct setting *setting, const struct tally *tally
 
 size_t print_tallies(const char *voice, const struct tally tally[SETTINGS]) {
     size_t unexplained = 0;
-    printf("%-16s %6s %9s %6s %9s", voice, "calls", "samples", "equal", "but round");
+    printf("%-16s %6s %6s %9s %6s %9s", voice, "calls", "filled", "samples", "equal", "but round");
     for (int cause = 0; cause < CAUSES; cause++)
         printf(" %7s", CAUSE[cause]);
     printf(" %11s  %s\n", "unexplained", "ends, rounded, marks, bytes");

@@ -12,7 +12,7 @@ enum { WRAP = MENDS, SILENCE, CAUSES };
 extern const char *const CAUSE[CAUSES];
 
 struct call {
-    cst_utterance *(*make)(const void *from); /* a fresh utterance, the same each time */
+    cst_utterance *(*make)(const void *from); /* a fresh utterance, the same each time; targets may lack a pitch */
     const void *from;
     const struct bytes *voice;
 };
@@ -20,6 +20,7 @@ struct call {
 struct verdict {
     uint32_t refusal; /* the engine's, and nothing is compared */
     size_t samples;   /* the engine's */
+    size_t filled;    /* how many targets have no pitch; flite's is filled in */
     int equal;        /* flite's samples are these and no more */
     size_t period, sample;   /* else where the first differing one stands, from 0 */
     size_t cause[CAUSES];    /* how many target ends, marks, bytes and samples differ, where it matters */
@@ -29,10 +30,10 @@ struct verdict {
 
 struct verdict judge(const struct call *call, const struct setting *setting);
 
-/* Verdicts of many calls: how many are equal, how many are or have no cause but ROUND, how many have each
-   cause. */
+/* Verdicts of many calls: how many have a target without a pitch, how many are equal, how many are or have no
+   cause but ROUND, how many have each cause. */
 struct tally {
-    size_t calls, samples, equal, but_round, unexplained;
+    size_t calls, filled, samples, equal, but_round, unexplained;
     size_t cause[CAUSES], changed[MENDS];
 };
 

@@ -145,6 +145,14 @@ static float make_segments(cst_utterance *utterance, int rate, uint64_t *row) {
     return end;
 }
 
+/* In half of the calls every third target or so has no pitch, the first or the last or several in turn. */
+static void leave_out_pitches(cst_relation *targets, uint64_t *row) {
+    int whole = below(row, 2) == 0;
+    for (cst_item *target = relation_head(targets); target != NULL && !whole; target = item_next(target))
+        if (below(row, 3) == 0)
+            feat_remove(item_feats(target), "f0");
+}
+
 static void make_targets(cst_utterance *utterance, float end, uint64_t *row) {
     cst_relation *targets = utt_relation_create(utterance, "Target");
     uint32_t count = 2 + below(row, 8);
@@ -153,6 +161,7 @@ static void make_targets(cst_utterance *utterance, float end, uint64_t *row) {
         float position = end * ((float)i + shift) / (float)(count - 1);
         add_target(targets, position, 60 + (float)below(row, 1u << 24) * 1.3e-5f);
     }
+    leave_out_pitches(targets, row);
 }
 
 static cst_utterance *empty_utterance(const struct made_call *call) {

@@ -10,7 +10,8 @@
 struct source made_voice(const char *name, int g721, uint64_t seed);
 
 /* A made-up call on a voice. With many of its ends the middle between two in f32 is another sample than in f64,
-   truncated or to the nearest; some ends stand on a sample, some half a sample after one. */
+   truncated or to the nearest; some ends stand on a sample, some half a sample after one. In half of the calls some
+   targets have no pitch. */
 struct made_call {
     const struct source *source;
     cst_voice *voice; /* for the phone set */

@@ -23,6 +23,24 @@ static int rate_of(const cst_utterance *utterance) {
     return val_sts_list(utt_feat_val(utterance, "sts_list"))->sample_rate;
 }
 
+/* ---- pitches */
+
+size_t fill_pitches(cst_utterance *utterance) {
+    float f0 = 120;
+    size_t filled = 0;
+    cst_item *target = NULL;
+    if (utt_relation_present(utterance, "Target"))
+        target = relation_head(utt_relation(utterance, "Target"));
+    for (; target != NULL; target = item_next(target))
+        if (item_feat_present(target, "f0")) {
+            f0 = item_feat_float(target, "f0");
+        } else {
+            item_set_float(target, "f0", f0);
+            filled++;
+        }
+    return filled;
+}
+
 /* ---- target ends */
 
 static int truncated(float place) { return (int)place; }

@@ -22,6 +22,10 @@ extern const struct setting SETTING[SETTINGS];
    TRAP   mu-law encoding gives 2 in place of 0, and 127 for the sample -32768 */
 enum { ENDS, ROUND, SLOPE, TRAP, MENDS };
 
+/* Fills in the pitches that targets lack, as flite ends the program at a target without one: that of the target
+   before, written or filled in, or 120 for the first. Answers how many there were. */
+size_t fill_pitches(cst_utterance *utterance);
+
 /* Speaks a fresh utterance by get_diphone_units, asis_to_pm or f0_targets_to_pm, concat_units and
    lpc_resynth_fixedpoint or lpc_resynth. So many places are mended; `ours` has the engine's bytes for TRAP.
    Counts in `changed` the ends, marks and bytes that each mend changed. */

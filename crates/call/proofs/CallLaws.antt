@@ -172,6 +172,9 @@ module _ (v : Voice) where
             let m : 2 ≤ length (t .segments) = rw (g .segments .whole, length-append) (omega arith) in
             rw (le-ltb (length (t .segments)) 2 m, planOf) (by-ahead (o .join) e)
 
+    pub marks-ahead : planOf v s o .refusal ≡ none → Heads (planOf v s o .marks) (planOf v t o .marks)
+    marks-ahead e = plan-ahead e .marks
+
     pub taken-ahead : planOf v s o .refusal ≡ none → Heads (periodsTaken v s o) (periodsTaken v t o)
     unfolding periodsTaken
     taken-ahead e =

@@ -1,16 +1,16 @@
 -- The numbers that a call fills in are read back from its buffers: none is too great for its bytes.
 use mathlib.Core.Path.{_≡_, refl, ap, _∙_}
 use mathlib.Core.Bool.{Bool, true, false}
-use mathlib.Core.List.{List}
+use mathlib.Core.List.{List, [], _∷_}
 use mathlib.Core.Option.{none}
-use Prim.Native.Nat.{ℕ, _*_}
+use Prim.Native.Nat.{ℕ, zero, suc, _*_, _^_}
 use native.Mathlib.Omega.{arith}
 use lib.Dec.{ltb}
 use lib.ListN.{length, take, length-map}
 use Rattle.base.specs.Buffers.{over, flat}
 use Rattle.base.specs.Bytes.{Bytes, bytesOf, elements}
 use Rattle.base.proofs.ListLaws.{next-none}
-use Rattle.base.proofs.BoundLaws.{Each, nil, Below, below-flat}
+use Rattle.base.proofs.BoundLaws.{Each, nil, cons, Below, below-flat}
 use Rattle.base.proofs.BufferLaws.{take-over, length-flat}
 use Rattle.base.proofs.ByteLaws.{length-bytesOf, elements-flat}
 use Rattle.voice.specs.Voice.{Voice, voiceOf}
@@ -54,7 +54,12 @@ plan-low v s o e = by (ltb (length (s .segments)) 2) e
     by true e = nil
     by false e = by-low (o .join) v (folded (o .fold) (s .segments)) (s .targets) e
 
--- ---- the lent slices, as far as the call filled them
+low-below : (ms : List ℕ) → Each Low ms → Below (256 ^ 4) ms
+low-below [] nil i = omega arith
+low-below (m ∷ ms) (cons l h) zero = omega arith
+low-below (m ∷ ms) (cons l h) (suc i) = low-below ms h i
+
+-- ---- the buffers, as far as the call filled them
 
 -- the first n elements of k bytes each, of a buffer that was filled with those of ws
 front : (k : ℕ) (ws d : List ℕ) (n : ℕ) → length ws ≡ n → take (k * n) (over (flat (bytesOf k) ws) d) ≡ flat (bytesOf k) ws
@@ -78,6 +83,12 @@ module _ (v : Voice) (s : Sheet) (o : Settings) where
 
   rows-count : length (rowsOf ps) ≡ length ps * v .header .order
   rows-count = rows-length (v .header .order) ps (periods-sized v s o) ∙ ap (λ (n : ℕ). n * v .header .order) sizes-count
+
+  pub marks-front : planOf v s o .refusal ≡ none → (d : List ℕ) → elements 4 (take (4 * summaryOf v s o .marks) (over (filled v s o .marks) d)) ≡ planOf v s o .marks
+  unfolding summaryOf filled
+  marks-front e d =
+      let ms = planOf v s o .marks in
+      ap (elements 4) (front 4 ms d (length ms) refl) ∙ elements-flat 4 ms (omega arith) (low-below ms (plan-low v s o e))
 
   pub sizes-front : planOf v s o .refusal ≡ none → (d : List ℕ) → elements 4 (take (4 * summaryOf v s o .periods) (over (filled v s o .sizes) d)) ≡ sizesOf ps
   unfolding summaryOf filled

@@ -209,7 +209,7 @@ spoken-made : (file sheet : List ℕ) (o : Settings) (b after : Buffers) (r : Pl
 unfolding plannedOf
 spoken-made file sheet o b after r p e = ap (λ (x : Planned). x .answer) (plan-made file sheet o b after r p .0 ∙ ap (answerBy (voiceOf file) (sheetOf sheet) o) e)
 
-same-summary : {m n : Summary} → _≡_ {A = Called} (Spoken m) (Spoken n) → m ≡ n
+pub same-summary : {m n : Summary} → _≡_ {A = Called} (Spoken m) (Spoken n) → m ≡ n
 same-summary e = cc
 
 made-after : (c : SpokenCall) (ds : List (List ℕ)) (os : List Shown) → MadeAfter c ds os → os ≡ pullsAfter c ds

@@ -96,7 +96,7 @@ pub in-c-spoken : (file sheet : List ℕ) (o : Settings) (h : Handed) (r : ℕ) 
 in-c-spoken file sheet o h r after p e j k = plan-in-c file sheet o h r after p .0 ∙ ap answerOf (by-call file sheet o h j k ∙ e)
 
 -- what it left
-left-in-c : (file sheet : List ℕ) (o : Settings) (h after : Handed) → PlanMadeInC file sheet o h 0 after → after ≡ handedBy file sheet o h nothing
+pub left-in-c : (file sheet : List ℕ) (o : Settings) (h after : Handed) → PlanMadeInC file sheet o h 0 after → after ≡ handedBy file sheet o h nothing
 unfolding handedAfter
 left-in-c file sheet o h after p =
     let e = plan-in-c file sheet o h 0 after p in

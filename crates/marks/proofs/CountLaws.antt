@@ -77,7 +77,7 @@ unfolding marksFrom
 marks-bounded rate s [] = record { most = omega arith; full = λ e. absurd (let z : _≡_ {A = ℕ} 0 1 = cc in omega arith) }
 marks-bounded rate s (t ∷ ts) =
     let position = positionCounted t in
-    let f0 = f0Counted t in
+    let f0 = f0Counted (s .f0) (t .f0) in
     let c = climbTo rate s position f0 in
     then-bounded (s .left) c (marksFrom rate (stageAfter c position f0) ts) (c .refusal) refl (climbTo-counted rate s position f0) (marks-bounded rate (stageAfter c position f0) ts)
 

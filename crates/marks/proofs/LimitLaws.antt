@@ -64,8 +64,10 @@ from-low : (rate : Float) (s : Stage) (ts : List Target) → Each Low (marksFrom
 unfolding marksFrom
 from-low rate s [] = nil
 from-low rate s (t ∷ ts) =
-    let c = climbTo rate s (positionCounted t) (f0Counted t) in
-    then-low (c .refusal) (c .marks) _ (target-low rate s (positionCounted t) (f0Counted t)) (from-low rate (stageAfter c (positionCounted t) (f0Counted t)) ts)
+    let position = positionCounted t in
+    let f0 = f0Counted (s .f0) (t .f0) in
+    let c = climbTo rate s position f0 in
+    then-low (c .refusal) (c .marks) _ (target-low rate s position f0) (from-low rate (stageAfter c position f0) ts)
 
 pub marks-low : (rate : ℕ) (ts : List Target) → Each Low (pitchMarks rate ts .marks)
 unfolding pitchMarks

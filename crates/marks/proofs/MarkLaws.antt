@@ -28,8 +28,10 @@ from-append : (rate : Float) (s : Stage) (ts us : List Target) → marksFrom rat
 unfolding marksFrom
 from-append rate s [] us e = heads-nil _
 from-append rate s (t ∷ ts) us e =
-    let c = climbTo rate s (positionCounted t) (f0Counted t) in
-    let s₁ = stageAfter c (positionCounted t) (f0Counted t) in
+    let position = positionCounted t in
+    let f0 = f0Counted (s .f0) (t .f0) in
+    let c = climbTo rate s position f0 in
+    let s₁ = stageAfter c position f0 in
     then-heads (c .refusal) (c .marks) (marksFrom rate s₁ ts) (marksFrom rate s₁ (ts ++ us)) e (from-append rate s₁ ts us)
 
 pub marks-append : (rate : ℕ) (ts us : List Target) → pitchMarks rate ts .refusal ≡ none → Heads (pitchMarks rate ts .marks) (pitchMarks rate (ts ++ us) .marks)

@@ -16,10 +16,10 @@ use Rattle.refusal.specs.declared.Refusal.the-variants.{BadSlope, PastLimit, To
 use Rattle.voice.specs.Voice.{Voice}
 use Rattle.voice.specs.Periods.{samplesOf, samplesFrom}
 use Rattle.sheet.specs.declared.Target.{Target}
-use Rattle.sheet.specs.Sheet.{isFinite, asF32}
+use Rattle.sheet.specs.Sheet.{isFinite}
 use Rattle.units.specs.declared.Unit.{Unit}
 use Rattle.units.specs.Units.{limit}
-use Rattle.marks.specs.PitchMarks.{Made, Contour, f0At, goesOn, nextTime, markAt, Climb, ends, withMark, climb, Stage, slopeOf, contourTo, climbTo, stageAfter, thenMarks, marksFrom, firstStage, pitchMarks}
+use Rattle.marks.specs.PitchMarks.{positionCounted, f0Counted, Made, Contour, f0At, goesOn, nextTime, markAt, Climb, ends, withMark, climb, Stage, slopeOf, contourTo, climbTo, stageAfter, thenMarks, marksFrom, firstStage, pitchMarks}
 use Rattle.marks.specs.NaturalMarks.{periodCount, marksOfPeriods, placeAfterUnit, naturalMarks}
 use Rattle.marks.specs.Checking.{lastOf}
 use Rattle.marks.specs.Rising.{Rising}
@@ -122,9 +122,11 @@ module _ (rate : Float) (n : ℕ) (v : HasValue rate false n 1) (some-rate : 0 <
   unfolding marksFrom
   from-rises s [] t = tt
   from-rises s (g ∷ ts) t =
-      let c = climbTo rate s (asF32 (g .pos)) (asF32 (g .f0)) in
-      let r = target-rises s (asF32 (g .pos)) (asF32 (g .f0)) t in
-      let next = stageAfter c (asF32 (g .pos)) (asF32 (g .f0)) in
+      let position = positionCounted g in
+      let f0 = f0Counted (s .f0) (g .f0) in
+      let c = climbTo rate s position f0 in
+      let r = target-rises s position f0 t in
+      let next = stageAfter c position f0 in
       then-rises (markOf rate (s .time)) (c .refusal) (c .marks) _ (r .rising) (subst (λ (m : ℕ). Rising m (marksFrom rate next ts .marks)) (sym (r .last)) (from-rises next ts (r .timely)))
 
 -- document 01 has rates from 1 to 48,000

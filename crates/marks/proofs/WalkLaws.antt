@@ -121,7 +121,7 @@ module _ (sheet : List ℕ) (w : Walk) (t : Target) (next : ℕ) where
   position = positionCounted t
 
   abbrev pitch : Float
-  pitch = f0Counted t
+  pitch = f0Counted (w .f0) (t .f0)
 
   on-to : (r : Aimed) (ts : List Target) → Aims w position pitch next r → 0 < w .targets → Ahead target sheet (w .targets - 1) next ts
       → coming sheet w ≡ after (w .rate) position pitch ts (up w position pitch next) → Advanced sheet w r

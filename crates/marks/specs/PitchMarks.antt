@@ -1,4 +1,5 @@
--- Document 01, 'Marks follow `pitch_marks`: f64, first f0 120, slope rounded to f32, stop at an instantaneous f0 not above 0.'
+-- Document 01, 'Marks follow `pitch_marks`: f64, first f0 120, slope rounded to f32, stop at an instantaneous f0 not above 0.' Document 02,
+-- A6: a target without a pitch.
 use mathlib.Core.Bool.{Bool, true, false, _&&_}
 use mathlib.Core.List.{List, [], _∷_, _++_}
 use mathlib.Core.Option.{Option, none, some}
@@ -9,6 +10,8 @@ use lib.Ieee.{Float, fin, binary64, add, sub, mul, div, lt, ne, ofInt, toUnsigne
 use Rattle.float.specs.Casts.{narrow}
 use Rattle.refusal.specs.declared.Refusal.{Refusal}
 use Rattle.refusal.specs.declared.Refusal.the-variants.{BadSlope, PastLimit, TooManyMarks}
+use Rattle.sheet.specs.declared.Value.{Value}
+use Rattle.sheet.specs.declared.Value.the-variants.{Int, Float as FloatValue, Absent}
 use Rattle.sheet.specs.declared.Target.{Target}
 use Rattle.sheet.specs.Sheet.{isFinite, asF32}
 use Rattle.units.specs.Units.{limit}
@@ -77,7 +80,7 @@ climb c (suc n) time =
 
 -- ---- from target to target
 
--- the time, the last target's position and f0, and how many marks are still allowed
+-- the time, the position and the f0 counted for the last target, and how many marks are still allowed
 pub record Stage : Type 0 where
   pub time : Float
   pub position : Float
@@ -115,18 +118,22 @@ abbrev pub thenMarks : Option Refusal → List ℕ → Made → Made
 thenMarks none ms rest = record { refusal = rest .refusal; marks = ms ++ rest .marks }
 thenMarks (some r) ms rest = record { refusal = some r; marks = ms }
 
--- the position and the f0 that a target counts
+-- the position that a target counts: 'an absent pos still counts 0'
 abbrev pub positionCounted : Target → Float
 positionCounted t = asF32 (t .pos)
 
-abbrev pub f0Counted : Target → Float
-f0Counted t = asF32 (t .f0)
+-- the f0 that it counts, where the target before it counted `last`: 'An absent f0 takes the f0 counted for the target before it, 120 for
+-- the first. A written 0 still counts as 0 Hz'
+unfoldable pub f0Counted : Float → Value → Float
+f0Counted last Absent = last
+f0Counted last (Int i) = asF32 (Int i)
+f0Counted last (FloatValue x) = asF32 (FloatValue x)
 
 unfoldable pub marksFrom : Float → Stage → List Target → Made
 marksFrom rate s [] = record { refusal = none; marks = [] }
 marksFrom rate s (t ∷ ts) =
     let position = positionCounted t in
-    let f0 = f0Counted t in
+    let f0 = f0Counted (s .f0) (t .f0) in
     let c = climbTo rate s position f0 in
     thenMarks (c .refusal) (c .marks) (marksFrom rate (stageAfter c position f0) ts)
 

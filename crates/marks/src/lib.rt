@@ -17,6 +17,7 @@ ghost use Rattle.marks.specs.Checking as checking;
 ghost use Rattle.marks.specs.Checking.{CanStore};
 use refusal::Refusal;
 use sheet::Places;
+use sheet::Value;
 
 // How many marks a call has at most.
 pub const MOST_MARKS: usize = 65536;
@@ -44,7 +45,7 @@ struct Tally {
 }
 
 // Where the making of pitch marks stands. The pitch goes from `base` at the time `from` by `slope`,
-// in Hz per second, to the target at `position`, whose pitch is `f0`; marks are made on the way if
+// in Hz per second, to the target at `position`, which counts `f0`; marks are made on the way if
 // `climbs`. `left` marks are still allowed; `targets` more targets stand in the sheet from `at` on.
 struct Walk {
     rate: f64,
@@ -192,6 +193,16 @@ fn aim(w: Walk, position: f64, f0: f64, next: usize) -> Aimed
     Aimed::To(moved(w, position, f0, next, false, 0.0))
 }
 
+// The pitch that a target counts: what it says, or where it says none the last one counted.
+fn f0_counted(last: f64, f0: Value) -> f64
+    ensures { λ r. ⌜ r ≡ pitch.f0Counted last f0 ⌝ }
+{
+    match f0 {
+        Value::Absent => last,
+        _ => std::num::f32_to_f64_with_nan(sheet::as_f32(f0)),
+    }
+}
+
 // On to the next target of the sheet.
 fn advance(sheet: &[u8], w: Walk) -> Aimed
     requires { ⌜ Reads (now sheet) w × (0 < w .targets) × (onWay w ≡ false) ⌝ }
@@ -204,7 +215,7 @@ fn advance(sheet: &[u8], w: Walk) -> Aimed
     aim(
         w,
         std::num::f32_to_f64_with_nan(sheet::as_f32(pos)),
-        std::num::f32_to_f64_with_nan(sheet::as_f32(f0)),
+        f0_counted(w.f0, f0),
         step.next,
     )
 }

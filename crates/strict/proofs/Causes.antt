@@ -196,8 +196,10 @@ marks-earlier : (rate : Float) (s : Stage) (ts : List Target) → Earlier (marks
 unfolding marksFrom
 marks-earlier rate s [] = omega arith
 marks-earlier rate s (t ∷ ts) =
-    let c = climbTo rate s (positionCounted t) (f0Counted t) in
-    then-marks (c .refusal) (c .marks) _ (to-earlier rate s (positionCounted t) (f0Counted t)) (marks-earlier rate (stageAfter c (positionCounted t) (f0Counted t)) ts)
+    let position = positionCounted t in
+    let f0 = f0Counted (s .f0) (t .f0) in
+    let c = climbTo rate s position f0 in
+    then-marks (c .refusal) (c .marks) _ (to-earlier rate s position f0) (marks-earlier rate (stageAfter c position f0) ts)
 
 by-earlier : (j : JoinType) (v : Voice) (ss : List SegmentRead) (ts : List Target) → Earlier (planBy j v ss ts .refusal)
 unfolding planBy simplePlan modifiedPlan pitchMarks

@@ -33,7 +33,7 @@ use Rattle.sheet.specs.Followers.{nameOf}
 use Rattle.units.specs.Selecting.{foldName, folded, inCluster, firstTried, entryOf, foundFrom, foundAll}
 use Rattle.units.specs.Units.{samplesAt, midway, unitsOfPair, unitsFrom, unitsAll, endRefusal}
 use Rattle.pairs.specs.Pairs.{triedFound}
-use Rattle.marks.specs.PitchMarks.{f0At, goesOn, nextTime, markAt, climb, slopeOf, climbTo, marksFrom, pitchMarks}
+use Rattle.marks.specs.PitchMarks.{f0At, goesOn, nextTime, markAt, climb, slopeOf, climbTo, f0Counted, marksFrom, pitchMarks}
 use Rattle.marks.specs.NaturalMarks.{marksOfPeriods, naturalMarks, naturalUnits, markRefusal}
 use Rattle.marks.specs.Checking.{lastOf, upTo}
 use Rattle.excitation.specs.Source.{decodedBy, sourceBy, sourceOf, centred}
@@ -85,8 +85,9 @@ unfolding ofBits add sub mul div lt le ne ofInt toUnsigned toSigned every firstF
     entryAt wholeEntry entriesFrom voiceAt placesOf voiceOf lookup insert sort sorted sortedIndex offset residualOf samplesOf
     samplesFrom rowOf longest hasNeeded risingIn goodTables withinFrames distinct goodIndex openingRefusal indexFits vowels
     consonants vc isVowel _andThen_ groups count printable name isFinite finite valueOf value asF32 segment target repeated
-    sheetFrom sheetRefusal sheetOf foldName folded nameOf inCluster firstTried entryOf foundFrom foundAll triedFound toNearest samplesAt midway
-    unitsOfPair unitsFrom unitsAll endRefusal f0At goesOn nextTime markAt climb slopeOf climbTo marksFrom pitchMarks marksOfPeriods naturalMarks
+    sheetFrom sheetRefusal sheetOf foldName folded nameOf inCluster firstTried entryOf foundFrom foundAll triedFound toNearest samplesAt
+    midway unitsOfPair unitsFrom unitsAll endRefusal f0At goesOn nextTime markAt climb slopeOf climbTo f0Counted marksFrom pitchMarks
+    marksOfPeriods naturalMarks
     naturalUnits markRefusal decodedBy sourceBy sourceOf centred nearestFrom nearestPeriod paceOf placeAfterSize periodOf lastOf
     upTo upToEnd ownPeriods shareCount sharesFrom shares periodsOfMarks periodsOfShare
     taken cut outputs samples periodsFrom scaledBy rowValue fixedSum divided fixedNext fixedFilter floatValue floatSum

@@ -3,7 +3,7 @@
 use super::Call;
 use crate::call::{Filter, Join, Settings};
 use crate::expected::{given, Given, SHORT_BUFFER};
-use crate::gen::damaged_calls;
+use crate::gen::damaged_calls::{self, LabelledCall};
 use crate::gen::voices::{self, Extent};
 use crate::gen::{damaged_sheets, damaged_voices, empty_heads, sheets, small};
 use crate::rng::Rng;
@@ -112,6 +112,28 @@ pub fn settings(rng: &mut Rng) -> Settings {
     }
 }
 
+/// At least five of six in the modified join, one of three strict.
+pub fn mostly_modified(rng: &mut Rng) -> Settings {
+    let drawn = settings(rng).strictly(rng.once_in(3));
+    match rng.once_in(6) {
+        true => drawn,
+        false => Settings {
+            join: Join::Modified,
+            ..drawn
+        },
+    }
+}
+
+/// A call that carries its number.
+pub fn labelled(about: &str, call: LabelledCall) -> Call {
+    Call {
+        about: format!("{about}, {}", call.reason),
+        voice: call.voice,
+        sheet: call.sheet,
+        settings: call.settings,
+    }
+}
+
 fn good(rng: &mut Rng, about: String) -> Call {
     let words = voices::vocabulary(rng);
     let covering = rng.once_in(2);
@@ -182,13 +204,7 @@ pub fn unfit_sheets(seed: u64, mut check: impl FnMut(&mut Rng, Call)) {
 pub fn at_limits(seed: u64, mut check: impl FnMut(&mut Rng, Call)) {
     let rng = &mut Rng::for_case(seed, 9_300_000);
     for limit in damaged_calls::all() {
-        let call = Call {
-            about: format!("call at a limit, {}", limit.reason),
-            voice: limit.voice,
-            sheet: limit.sheet,
-            settings: limit.settings,
-        };
-        check(rng, call);
+        check(rng, labelled("call at a limit", limit));
     }
 }
 

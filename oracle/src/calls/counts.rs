@@ -4,6 +4,7 @@ use super::machine::{DONE, IMPOSSIBLE, SHORT_SLICE};
 use super::strict_counts::Strict;
 use crate::call::{Settings, JOINS, NAMED};
 use crate::departure;
+use crate::empty_boxes;
 use crate::expected::{answers, Spoken, SHORT_BUFFER};
 use crate::refusal::{numbered, ByNumber, LAST};
 use crate::report::Report;
@@ -24,6 +25,15 @@ type BySort = [[u64; NAMED.len()]; SORTS.len()];
 /// What was made twice, with no filter named and with float named: calls, plans
 /// and pulls.
 const PAIRS: [&str; 4] = ["spoken", "refused", "plans", "pulls"];
+
+/// Sheets that begin others, their marks compared.
+const BEGUN: [&str; 5] = [
+    "join none",
+    "simple",
+    "modified",
+    "with more marks behind",
+    "modified join, going on without a pitch",
+];
 
 /// What is counted of the taking of marks. The list is that of the simple join.
 const TALLIES: [&str; 10] = [
@@ -83,6 +93,8 @@ pub struct Counts {
     pairs: [u64; PAIRS.len()],
     pub strict: Strict,
     departure: departure::Counts,
+    pub boxes: empty_boxes::Counts,
+    begun: [u64; BEGUN.len()],
     /// Calls that the Rust would take too long for.
     pub not_compared: u64,
 }
@@ -139,6 +151,13 @@ impl Counts {
         }
     }
 
+    /// One more sheet that begins another.
+    pub fn begun(&mut self, more: [bool; BEGUN.len()]) {
+        for (sum, more) in self.begun.iter_mut().zip(more) {
+            *sum += u64::from(more);
+        }
+    }
+
     pub fn pull(&mut self, answer: i64) {
         self.pulls += 1;
         self.done += u64::from(answer == DONE);
@@ -176,6 +195,11 @@ impl Counts {
         });
         self.strict.check_reached(report);
         self.departure.check_reached(report);
+        self.boxes.check_reached(report);
+        report.check(!self.begun.contains(&0), || {
+            let begun = named(&BEGUN, &self.begun);
+            format!("sheets that begin others: {begun}")
+        });
         let answered = answers().all(|number| self.reports[number] > 0);
         report.check(answered, || {
             let reports = numbered(&self.reports);
@@ -208,6 +232,11 @@ impl Counts {
         );
         self.strict.print();
         self.departure.print();
+        self.boxes.print();
+        println!(
+            "  marks left by a sheet that begins another: {}",
+            named(&BEGUN, &self.begun)
+        );
         println!(
             "  not compared, as the Rust would take long: {}",
             self.not_compared

@@ -9,6 +9,7 @@ mod ends_cases;
 pub mod guarded;
 mod machine;
 mod odd_states;
+mod pitch_cases;
 mod planning;
 mod pulling;
 mod reporting;
@@ -20,6 +21,7 @@ mod unnamed;
 
 use crate::args::Args;
 use crate::call::Settings;
+use crate::empty_boxes::Boxes;
 use crate::expected::{self, Given, Most};
 use crate::report::Report;
 use crate::rng::Rng;
@@ -35,6 +37,9 @@ const STRICT: u64 = 2;
 
 /// So many are followed by one with target ends of a manner.
 const ENDS: u64 = 4;
+
+/// So many are followed by one with targets without a pitch.
+const PITCHES: u64 = 4;
 
 /// The call's files and settings, and what it is.
 pub struct Call {
@@ -77,6 +82,9 @@ pub fn run(args: &Args) -> bool {
     let numbers = args.from / ENDS..(args.from + calls) / ENDS;
     ends_cases::generated(args.seed, numbers, &mut each);
     ends_cases::by_products(args.seed, &mut each);
+    pitch_cases::by_f0s(args.seed, &mut each);
+    let numbers = args.from / PITCHES..(args.from + calls) / PITCHES;
+    pitch_cases::generated(args.seed, numbers, &mut bench);
     bench.counts.check_reached(&mut bench.report);
     println!("oracle calls: seed {}, {calls} generated calls", args.seed);
     bench.counts.print();
@@ -112,6 +120,14 @@ pub fn check(rng: &mut Rng, call: &Call, bench: &mut Bench) {
     if let (true, Some(given)) = (call.settings.strict, &given) {
         strict::compare(own, call, given, bench);
     }
+    let boxes = match given {
+        Some(Given::Refused(refusal)) => {
+            Boxes::refused(&call.voice, &call.sheet, call.settings, refusal.number())
+        }
+        Some(Given::Spoken(spoken)) => spoken.boxes,
+        None => None,
+    };
+    boxes.iter().for_each(|boxes| bench.counts.boxes.add(boxes));
     let same = kept[0] == call.voice && kept[1] == call.sheet;
     bench
         .report

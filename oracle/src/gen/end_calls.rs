@@ -201,21 +201,28 @@ impl Row {
         let Row { rate, pitch, .. } = self;
         let (f0, count) = pitch;
         let contour = [(0.0, f0), (count as f32 / f0, f0)];
+        let (settings, codec) = numbered_settings(number, join);
         LabelledCall {
-            voice: file(&voice(rate, (number / NAMED.len()) as u32 % 2).sections()),
+            voice: file(&voice(rate, codec).sections()),
             sheet: write(&sheet(&self.ends, &contour)),
-            settings: Settings {
-                filter: NAMED[number % NAMED.len()],
-                ..Settings::new(join)
-            },
+            settings,
             label: self.label.filter(|_| join == Join::Modified),
             reason: self.reason,
         }
     }
 }
 
+/// What is named of the filter, and the codec, by a number.
+pub(super) fn numbered_settings(number: usize, join: Join) -> (Settings, u32) {
+    let settings = Settings {
+        filter: NAMED[number % NAMED.len()],
+        ..Settings::new(join)
+    };
+    (settings, (number / NAMED.len()) as u32 % 2)
+}
+
 /// A voice of eight periods whose rows differ, two or more of them in a unit.
-fn voice(rate: u32, codec: u32) -> VoiceSpec {
+pub(super) fn voice(rate: u32, codec: u32) -> VoiceSpec {
     let mut voice = plain(8, (0..=8).map(|i| i * 6 + i * i / 3).collect());
     voice.header.rate = rate;
     voice.header.codec = codec;

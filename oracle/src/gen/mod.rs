@@ -6,6 +6,8 @@ pub mod damaged_sheets;
 pub mod damaged_voices;
 pub mod empty_heads;
 pub mod end_calls;
+pub mod pitch_calls;
+pub mod pitches;
 pub mod shaped;
 pub mod sheets;
 pub mod small;
@@ -15,6 +17,10 @@ pub mod text;
 pub mod voices;
 
 use crate::refusal::Refusal;
+use crate::rng::Rng;
+use crate::sheet::Sheet;
+use small::Shape;
+use voices::VoiceSpec;
 
 // Document 01's limits, written out here once more: a wrong limit in a reader
 // then shows as a label that it does not give.
@@ -30,6 +36,26 @@ pub struct Labelled {
     /// Nothing where it lies just inside the limits and is accepted.
     pub label: Option<Refusal>,
     pub reason: String,
+}
+
+/// A voice and a sheet by their number: the manners in turn, of any extent and
+/// small.
+fn in_turn<M: Copy>(
+    rng: &mut Rng,
+    number: u64,
+    manners: &[M],
+    any: fn(&mut Rng, M) -> (VoiceSpec, Sheet),
+    little: fn(&mut Rng, Shape, M) -> (VoiceSpec, Sheet),
+) -> (M, VoiceSpec, Sheet) {
+    let manner = manners[number as usize / 2 % manners.len()];
+    let (spec, sheet) = match number % 2 {
+        0 => any(rng, manner),
+        _ => {
+            let shape = small::shape(rng);
+            little(rng, shape, manner)
+        }
+    };
+    (manner, spec, sheet)
 }
 
 /// The fifty phones of phoneset.rs.

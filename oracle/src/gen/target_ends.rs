@@ -71,18 +71,9 @@ const MOST_DRAWS: usize = 60;
 const SHORT: usize = 24;
 const LONG: usize = 300;
 
-/// A voice and a sheet by their number: the manners in turn, of any extent and
-/// small.
+/// A voice and a sheet by their number.
 pub fn numbered(rng: &mut Rng, number: u64) -> (Manner, VoiceSpec, Sheet) {
-    let manner = MANNERS[number as usize / 2 % MANNERS.len()];
-    let (spec, sheet) = match number % 2 {
-        0 => any(rng, manner),
-        _ => {
-            let shape = small::shape(rng);
-            little(rng, shape, manner)
-        }
-    };
-    (manner, spec, sheet)
+    super::in_turn(rng, number, &MANNERS, any, little)
 }
 
 /// A voice of any extent, and a sheet.

@@ -20,6 +20,10 @@ pub fn about(kind: Kind, draft: &Draft, shown: &Expected) -> String {
         Kind::AtLimit(_) if shown.number == 0 => "spoken, at a limit".to_string(),
         Kind::Ends(..) => "spoken, target ends".to_string(),
         Kind::AtEnds(_) if shown.number == 0 => "spoken, target ends by their products".to_string(),
+        Kind::Pitches(..) => "spoken, targets without a pitch".to_string(),
+        Kind::AtPitches(_) if shown.number == 0 => {
+            "spoken, targets without a pitch by their f0s".to_string()
+        }
         Kind::Several => format!("refused {} of several causes", shown.number),
         _ => format!("refused {}", shown.number),
     };

@@ -7,7 +7,7 @@ use crate::gen::shaped::without_names;
 use crate::gen::small::{self, Shape};
 use crate::gen::target_ends::{self, Manner};
 use crate::gen::voices::{file, plain, with_extras, Vocabulary, VoiceSpec};
-use crate::gen::{damaged_sheets, damaged_voices, end_calls, Labelled};
+use crate::gen::{damaged_sheets, damaged_voices, end_calls, pitch_calls, pitches, Labelled};
 use crate::lent::{Room, NAMES};
 use crate::refusal::Refusal;
 use crate::rng::Rng;
@@ -19,10 +19,12 @@ const MOST_VOICE: usize = 640;
 const MOST_SHEET: usize = 140;
 
 /// The round through the kinds in which no call names float, the strict one
-/// behind it, and the one of target ends behind that.
+/// behind it, the one of target ends behind that, and the one of targets without
+/// a pitch.
 pub const UNNAMED: u64 = 3;
 pub const STRICT: u64 = 4;
 pub const ENDS: u64 = 5;
+pub const PITCHES: u64 = 6;
 
 /// A call before its buffers and slices are drawn.
 pub struct Draft {
@@ -46,11 +48,12 @@ impl Draft {
     }
 }
 
-/// The calls at a limit that are small, and those whose target ends are given by
-/// their products.
+/// The calls at a limit that are small, those whose target ends are given by their
+/// products, and those with targets without a pitch whose f0s are given.
 pub struct Limits {
     calls: Vec<LabelledCall>,
     ends: Vec<LabelledCall>,
+    pitches: Vec<LabelledCall>,
 }
 
 impl Limits {
@@ -58,7 +61,12 @@ impl Limits {
         let mut calls = damaged_calls::all();
         calls.retain(|call| call.voice.len() <= MOST_VOICE && call.sheet.len() <= MOST_SHEET);
         let ends = end_calls::some();
-        Limits { calls, ends }
+        let pitches = pitch_calls::small();
+        Limits {
+            calls,
+            ends,
+            pitches,
+        }
     }
 
     /// One of those with this label.
@@ -108,6 +116,8 @@ pub fn draft(rng: &mut Rng, kind: Kind, limits: &Limits) -> Option<Draft> {
         Kind::MissingBefore(cause) => lacking(limits.pick(rng, Some(cause))),
         Kind::Ends(settings, shape, manner) => ends(rng, settings, shape, manner),
         Kind::AtEnds(number) => at_limit(rng, &limits.ends[number % limits.ends.len()]),
+        Kind::Pitches(settings, shape, manner) => without_pitch(rng, settings, shape, manner),
+        Kind::AtPitches(number) => at_limit(rng, &limits.pitches[number % limits.pitches.len()]),
     };
     let small = draft.voice.len() <= MOST_VOICE && draft.sheet.len() <= MOST_SHEET;
     small.then_some(draft)
@@ -134,6 +144,19 @@ fn good(rng: &mut Rng, settings: Settings, shape: Shape) -> Draft {
 
 fn ends(rng: &mut Rng, settings: Settings, shape: Shape, manner: Manner) -> Draft {
     let (spec, sheet) = target_ends::little(rng, shape, manner);
+    Draft {
+        reason: manner.name().to_string(),
+        ..drafted(rng, &spec, &sheet, settings)
+    }
+}
+
+fn without_pitch(
+    rng: &mut Rng,
+    settings: Settings,
+    shape: Shape,
+    manner: pitches::Manner,
+) -> Draft {
+    let (spec, sheet) = pitches::little(rng, shape, manner);
     Draft {
         reason: manner.name().to_string(),
         ..drafted(rng, &spec, &sheet, settings)

@@ -1,10 +1,12 @@
 //! The kinds of calls that a run goes through.
 
-use super::drafts::{ENDS, STRICT};
+use super::drafts::{ENDS, PITCHES, STRICT};
 use super::rounding;
 use crate::call::{Filter, Join, Settings};
+use crate::empty_boxes::Boxes;
 use crate::expected::{Given, Most, Spoken, SHORT_BUFFER};
 use crate::gen::damaged_voices::CAUSES;
+use crate::gen::pitches;
 use crate::gen::small::Shape;
 use crate::gen::target_ends::{Manner, MANNERS};
 use crate::refusal::Refusal;
@@ -21,7 +23,7 @@ const LONG: Most = Most {
 };
 
 /// Rounds through the kinds before they begin again.
-const ROUNDS: u64 = ENDS + 1;
+const ROUNDS: u64 = PITCHES + 1;
 
 #[derive(Clone, Copy, Debug, PartialEq, Eq)]
 pub enum Kind {
@@ -65,6 +67,11 @@ pub enum Kind {
     /// The call of this number whose target ends are given by their products,
     /// spoken or refused.
     AtEnds(usize),
+    /// Spoken, with targets without a pitch in a manner.
+    Pitches(Settings, Shape, pitches::Manner),
+    /// The call of this number with targets without a pitch whose f0s are given,
+    /// spoken or refused.
+    AtPitches(usize),
 }
 
 impl Kind {
@@ -113,31 +120,56 @@ pub fn all() -> Vec<Kind> {
 }
 
 /// The kind of a call by its number, and the round through all kinds that it is
-/// in. One round has target ends where rounding shows instead.
+/// in. One round has target ends where rounding shows instead, one targets without
+/// a pitch.
 pub fn of(number: u64) -> (Kind, u64) {
     let kinds = all();
     let round = number / kinds.len() as u64 % ROUNDS;
     let place = number as usize % kinds.len();
     let kind = match round {
         ENDS => ends(kinds.len())[place],
+        PITCHES => pitches(kinds.len())[place],
         _ => kinds[place].in_round(round),
     };
     (kind, round)
 }
 
-/// Every setting of the modified join with every shape, the manners in turn; the
-/// rest of so many kinds by their products.
+/// The manners of target ends in turn; the rest of so many kinds by their products.
 fn ends(count: usize) -> Vec<Kind> {
+    let kind = |number: usize, settings, shape| {
+        let [i, j] = [number / SHAPES.len(), number % SHAPES.len()];
+        Kind::Ends(settings, shape, MANNERS[(i + 3 * j) % MANNERS.len()])
+    };
+    modified(count, kind, Kind::AtEnds)
+}
+
+/// The manners of targets without a pitch in turn; the rest by their f0s.
+fn pitches(count: usize) -> Vec<Kind> {
+    let kind = |number: usize, settings, shape| {
+        Kind::Pitches(
+            settings,
+            shape,
+            pitches::MANNERS[number % pitches::MANNERS.len()],
+        )
+    };
+    modified(count, kind, Kind::AtPitches)
+}
+
+/// Every setting of the modified join with every shape, numbered; the rest of so
+/// many kinds from a list.
+fn modified(
+    count: usize,
+    kind: impl Fn(usize, Settings, Shape) -> Kind,
+    listed: fn(usize) -> Kind,
+) -> Vec<Kind> {
     let mut kinds = Vec::new();
     let modified = |settings: &Settings| settings.join == Join::Modified;
-    let settings = Settings::all().into_iter().filter(modified);
-    for (i, settings) in settings.enumerate() {
-        for (j, shape) in SHAPES.into_iter().enumerate() {
-            let manner = MANNERS[(i + 3 * j) % MANNERS.len()];
-            kinds.push(Kind::Ends(settings, shape, manner));
+    for settings in Settings::all().into_iter().filter(modified) {
+        for shape in SHAPES {
+            kinds.push(kind(kinds.len(), settings, shape));
         }
     }
-    kinds.extend((0..count - kinds.len()).map(Kind::AtEnds));
+    kinds.extend((0..count - kinds.len()).map(listed));
     Rng::new(0).shuffle(&mut kinds);
     kinds
 }
@@ -186,7 +218,7 @@ const fn shape(g721: bool, sizes: bool) -> Shape {
 /// are to have periods.
 pub fn is_of(rng: &mut Rng, kind: Kind, voice: &[u8], given: &Given, number: usize) -> bool {
     match (kind, given) {
-        (Kind::AtLimit(_) | Kind::AtEnds(_), _) => true,
+        (Kind::AtLimit(_) | Kind::AtEnds(_) | Kind::AtPitches(_), _) => true,
         (Kind::Voice(cause) | Kind::Sheet(cause) | Kind::Call(cause), _) => {
             number == cause.number()
         }
@@ -208,6 +240,7 @@ fn is_spoken(rng: &mut Rng, kind: Kind, voice: &[u8], call: &Spoken) -> bool {
         Kind::OneMark => call.needed[1] == 1,
         Kind::Rounding => rounding::shows(voice, call),
         Kind::Ends(_, _, manner) => periods > 1 && has_ends(call, manner),
+        Kind::Pitches(_, _, manner) => periods > 1 && has_empty_boxes(call, manner),
         _ => periods > 1,
     }
 }
@@ -223,5 +256,16 @@ fn has_ends(call: &Spoken, manner: Manner) -> bool {
         Manner::High => true,
         Manner::Half => departure.has_half() && departure.shows(),
         Manner::Low | Manner::BeforeMark | Manner::Mixed => departure.shows(),
+    }
+}
+
+/// Whether the marks and samples of a call are not the Rust's own, where its manner
+/// allows that.
+fn has_empty_boxes(call: &Spoken, manner: pitches::Manner) -> bool {
+    let boxes = call.boxes.as_ref();
+    match manner {
+        pitches::Manner::Zero => boxes.is_some(),
+        pitches::Manner::Tiny => boxes.is_some_and(Boxes::has_other_marks),
+        _ => boxes.is_some_and(Boxes::shows),
     }
 }

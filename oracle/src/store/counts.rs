@@ -3,6 +3,7 @@
 use super::record::Stored;
 use crate::call::{Join, Settings, JOINS};
 use crate::departure;
+use crate::empty_boxes::{self, Boxes};
 use crate::expected::answers;
 use crate::refusal::{numbered, ByNumber, Refusal};
 use crate::voicefile;
@@ -24,6 +25,7 @@ pub struct Counts {
     /// Spoken calls with their periods and samples.
     spoken: [usize; 3],
     departure: departure::Counts,
+    boxes: empty_boxes::Counts,
     /// What was spoken: settings, codecs, orders; and what was refused with 16.
     met: BTreeSet<String>,
 }
@@ -46,8 +48,18 @@ impl Counts {
             self.met.insert(missing_in(call.settings.join));
         }
         let Some(spoken) = &call.spoken else {
+            let Stored {
+                voice,
+                sheet,
+                settings,
+                ..
+            } = call;
+            let boxes = Boxes::refused(voice, sheet, *settings, call.number);
+            boxes.iter().for_each(|boxes| self.boxes.add(boxes));
             return;
         };
+        let boxes = spoken.boxes.iter();
+        boxes.for_each(|boxes| self.boxes.add(boxes));
         self.departure.add(&spoken.departure);
         let [periods, samples] = [spoken.summary[1], spoken.summary[2]];
         let more = [1, periods, samples];
@@ -79,6 +91,7 @@ impl Counts {
             missing.push("a refusal where no filter is named".to_string());
         }
         missing.extend(self.departure.missing());
+        missing.extend(self.boxes.missing());
         let mut wanted = vec![order(0), order(32)];
         wanted.extend(JOINS.map(missing_in));
         for settings in Settings::all() {
@@ -102,6 +115,7 @@ impl Counts {
         let [calls, periods, samples] = self.spoken;
         println!("  spoken: {calls} calls, {periods} periods, {samples} samples");
         self.departure.print();
+        self.boxes.print();
     }
 }
 

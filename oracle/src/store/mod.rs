@@ -5,6 +5,7 @@ mod counts;
 mod edges;
 mod ends;
 mod larger;
+mod pitches;
 mod record;
 mod strict;
 
@@ -53,7 +54,8 @@ pub fn run(args: &Args) -> bool {
 /// The calls of `oracle statements` and larger ones, each as it was drawn and
 /// as document 01's program speaks it; then the edges. Those that name no filter
 /// stand behind them, some more of `oracle statements` among them, then the
-/// strict ones, and those with target ends by their products at the end.
+/// strict ones, those with target ends by their products, and those with targets
+/// without a pitch at the end.
 pub fn calls(seed: u64, count: u64) -> Vec<Stored> {
     let limits = Limits::new();
     let small = |numbers: Range<u64>| numbers.filter_map(|number| small(seed, number, &limits));
@@ -64,6 +66,7 @@ pub fn calls(seed: u64, count: u64) -> Vec<Stored> {
     calls.sort_by_key(Stored::names_none);
     calls.extend(strict::all());
     calls.extend(ends::all());
+    calls.extend(pitches::all());
     calls
 }
 

@@ -12,21 +12,18 @@ as-f32-requires c κs = search needs
 f32-to-f64-with-nan-requires : tie.Need-f32-to-f64-with-nan-requires
 f32-to-f64-with-nan-requires c κs = search needs
 
-as-f32-requires-2 : tie.Need-as-f32-requires-2
-as-f32-requires-2 c κs = search needs
-
-f32-to-f64-with-nan-requires-2 : tie.Need-f32-to-f64-with-nan-requires-2
-f32-to-f64-with-nan-requires-2 c κs = search needs
+f0-counted-requires : tie.Need-f0-counted-requires
+f0-counted-requires c κs = search needs
 
 aim-requires : tie.Need-aim-requires
 aim-requires c κs = search needs
 
 returns : tie.Need-returns
-returns c = let pos = c .before .before .before in
+returns c = let pos = c .before .before in
     let t = pos .before .before .before in
     let p = t .before .before .pre in
     advanced _ _ _ _ _ (p .0) (p .1) (p .2) (t .target-at .ensures)
-    (rw (c .before .f32-to-f64-with-nan2 .ensures, c .before .before .as-f322 .ensures, pos .f32-to-f64-with-nan .ensures, pos .before .as-f32 .ensures) at (c .aim .ensures))
+    (rw (c .before .f0-counted .ensures, pos .f32-to-f64-with-nan .ensures, pos .before .as-f32 .ensures) at (c .aim .ensures))
 
 pub advance-spec : {M : Type 1} → statement M
 advance-spec =
@@ -35,7 +32,6 @@ advance-spec =
     target-at-requires
     as-f32-requires
     f32-to-f64-with-nan-requires
-    as-f32-requires-2
-    f32-to-f64-with-nan-requires-2
+    f0-counted-requires
     aim-requires
     returns)
