@@ -17,7 +17,7 @@
 #include <stddef.h>
 #include <stdint.h>
 
-#define DIPHONE_VERSION "1.6"
+#define DIPHONE_VERSION "1.7"
 
 #ifdef __cplusplus
 #define DIPHONE_RESTRICT
@@ -47,7 +47,8 @@ enum {
     DIPHONE_BAD_STATE = 15,      /* the filter state is impossible, or the rows end within the
                                     next one */
     DIPHONE_MISSING_PAIR = 16,   /* the call is strict, and a pair finds no name in the index */
-    DIPHONE_LAST_REFUSAL = 16    /* the last of them */
+    DIPHONE_LONG_TEXT = 17,      /* a text of the sheet has more than 12 bytes */
+    DIPHONE_LAST_REFUSAL = 17    /* the last of them */
 };
 
 /* The record of a voice: the 40 bytes of its section sts.header as stored, then two numbers of
@@ -89,7 +90,13 @@ uint32_t diphone_open(const uint8_t *DIPHONE_RESTRICT voice, size_t voice_len,
  *
  * The modified join alone reads pitch targets too. Where a target's f0 is absent, the pitch counted
  * for the target before it goes on, over several such targets too; for the first it is 120 Hz. A
- * written 0 is 0 Hz. An absent end or position counts as 0. */
+ * written 0 is 0 Hz. An absent end or position counts as 0.
+ *
+ * An end, a position or an f0 may also stand in the sheet as the text that was typed: up to 12 bytes,
+ * of which a sign in front, digits and one point count, up to the first byte that is something else.
+ * It is the float of 32 bits nearest to that decimal, of two as near the even one; without a digit it
+ * is a written 0. The call is in everything that of the sheet with these floats. A length above 12 is
+ * refused with 17, whatever follows it. */
 enum {
     DIPHONE_JOIN_NONE = 0,      /* no periods */
     DIPHONE_JOIN_SIMPLE = 1,    /* each period as long as it is stored */
@@ -110,7 +117,7 @@ enum {
  *
  * Takes:   voice and sheet, the bytes of a voice file and of a call sheet; settings, as above (the
  *          filter plays no part); need, DIPHONE_NEED_BYTES or more.
- * Answers: 0; or 1 to 12 or 16 as diphone_plan does; or 13 if need is too short.
+ * Answers: 0; or 1 to 12, 16 or 17 as diphone_plan does; or 13 if need is too short.
  * Leaves:  on 0, in need the six numbers: an index of 8 bytes an entry, marks of 4, sizes of 4 bytes
  *          a period, rows of 2 a row value, excitation and decoded of so many bytes are long enough,
  *          and shorter ones are not; bytes past these as they were. */
@@ -128,7 +135,7 @@ uint32_t diphone_need(const uint8_t *DIPHONE_RESTRICT voice, size_t voice_len,
  *
  * Takes:   voice, sheet and settings as diphone_need does (the filter plays no part); lines,
  *          DIPHONE_REPORT_LINE_BYTES for each period or more (diphone_need tells how many periods).
- * Answers: 0; or 1 to 12 or 16 as diphone_need does; or 13 if lines is too short.
+ * Answers: 0; or 1 to 12, 16 or 17 as diphone_need does; or 13 if lines is too short.
  * Leaves:  on 0, in lines a line for each period, in their order; bytes past these as they were. Pair
  *          and half are those of the unit that took the period's mark: in the simple join a unit takes
  *          the marks that its own periods made, those of empty periods too; in the modified join, unit by
@@ -155,10 +162,10 @@ uint32_t diphone_report(const uint8_t *DIPHONE_RESTRICT voice, size_t voice_len,
  * Takes:   voice, sheet and settings as diphone_need does; index, marks, sizes, rows, excitation and
  *          decoded, each as long as diphone_need tells or longer; state, DIPHONE_STATE_BYTES or more;
  *          summary, DIPHONE_SUMMARY_BYTES or more.
- * Answers: 0; or 1 to 7 for the voice file, then 8 or 9 for the sheet, whichever is met first in it,
- *          then 16 for a pair of a strict call, then 11 for a target end, then 10, 12 or 11 for the
- *          marks in the order made, then 13 if a buffer is too short. The simple join gives no 10,
- *          and 11 for its marks alone; join none gives no 10, 11 or 12, and a sheet of fewer than
+ * Answers: 0; or 1 to 7 for the voice file, then 8, 9 or 17 for the sheet, whichever is met first in
+ *          it, then 16 for a pair of a strict call, then 11 for a target end, then 10, 12 or 11 for
+ *          the marks in the order made, then 13 if a buffer is too short. The simple join gives no
+ *          10, and 11 for its marks alone; join none gives no 10, 11 or 12, and a sheet of fewer than
  *          two segments no 16 either.
  * Leaves:  on 0, in index the sorted index as diphone_open has it, in marks every pitch mark (4 bytes
  *          each), in sizes the size of each period in samples (4 bytes), in rows its row of order

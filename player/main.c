@@ -145,6 +145,7 @@ static int speak(struct call *call)
     } else {
         note_empty(&call->speech, &call->sheet, call->options);
         note_pairs(&call->speech, &call->voice, &call->sheet, call->options);
+        note_texts(&call->sheet);
         if (call->options->output != OUTPUT_NONE)
             status = write_speech(call);
         if (status == 0 && has_table)

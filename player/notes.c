@@ -27,6 +27,44 @@ void note_pairs(const struct speech *speech, const struct input *voice, const st
     release_phones(&pairs.phones);
 }
 
+/* A text in quotes, as tools/sheet writes it: what is not printing ASCII stands as \xNN. */
+static void print_text(const struct text *text)
+{
+    size_t i;
+
+    putc('"', stderr);
+    for (i = 0; i < text->length; i += 1) {
+        uint8_t byte = text->at[i];
+        if (byte < 32 || byte > 126)
+            fprintf(stderr, "\\x%02x", byte);
+        else
+            fprintf(stderr, byte == '"' || byte == '\\' ? "\\%c" : "%c", byte);
+    }
+    putc('"', stderr);
+}
+
+void note_texts(const struct input *sheet)
+{
+    struct phones phones;
+    const struct texts *texts = &phones.texts;
+    struct flaw flaw;
+
+    if (read_phones(&phones, &sheet->bytes, &flaw) != 0)
+        return;
+    if (texts->odd > 0) {
+        fprintf(stderr, "player: note: %llu of %llu texts in %s not read to the end or without a digit: ",
+                (unsigned long long)texts->odd, (unsigned long long)texts->count, sheet->name);
+        print_text(&texts->first);
+        fprintf(stderr, ", the %s, counts as ", texts->what);
+        if (texts->first.counted > 0)
+            fwrite(texts->first.at, 1, texts->first.counted, stderr);
+        else
+            putc('0', stderr);
+        fputs(texts->odd > 1 ? ", ..\n" : "\n", stderr);
+    }
+    release_phones(&phones);
+}
+
 void note_empty(const struct speech *speech, const struct input *sheet, const struct options *options)
 {
     struct phones phones;

@@ -9,6 +9,10 @@
 void note_pairs(const struct speech *speech, const struct input *voice, const struct input *sheet,
                 const struct options *options);
 
+/* Says how many texts of the sheet are not read to their end or have no digit, and of the first one what it
+   is and what it counts as, in every join. */
+void note_texts(const struct input *sheet);
+
 /* Says that a call has no period, and why. */
 void note_empty(const struct speech *speech, const struct input *sheet, const struct options *options);
 

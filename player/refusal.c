@@ -5,7 +5,7 @@
 
 #include <stdio.h>
 
-/* What each number says: of the voice up to 7, of the sheet up to 12 and with 16, else of the player. */
+/* What each number says: of the voice up to 7, of the sheet up to 12, with 16 and 17, else of the player. */
 static const char *const SENTENCES[] = {
     "no refusal",
     "is no voice file: its first 8 bytes are not FLRSDAT and 1",
@@ -24,6 +24,7 @@ static const char *const SENTENCES[] = {
     "a sample slice is shorter than the next period",
     "the filter state is impossible, or the coefficients are cut short",
     "has pairs of phones that the voice lacks, and the call is strict",
+    "has a time or pitch whose text is too long",
 };
 
 _Static_assert(sizeof SENTENCES / sizeof *SENTENCES == DIPHONE_LAST_REFUSAL + 1,
@@ -73,11 +74,11 @@ void print_refusal(uint32_t number, const struct input *voice, const struct inpu
 
     if (number <= LAST_OF_VOICE)
         what = voice->name;
-    else if (number <= LAST_OF_SHEET || number == DIPHONE_MISSING_PAIR)
+    else if (number <= LAST_OF_SHEET || number == DIPHONE_MISSING_PAIR || number == DIPHONE_LONG_TEXT)
         what = sheet->name;
     fprintf(stderr, "player: refused %lu: %s %s", (unsigned long)number, what,
             number <= DIPHONE_LAST_REFUSAL ? SENTENCES[number] : "an unknown number");
-    if (number == DIPHONE_BAD_SHEET || number == DIPHONE_NOT_FINITE)
+    if (number == DIPHONE_BAD_SHEET || number == DIPHONE_NOT_FINITE || number == DIPHONE_LONG_TEXT)
         print_flaw(&sheet->bytes);
     else if (number == DIPHONE_MISSING_PAIR)
         print_lacking(voice, sheet, options->fold != 0);

@@ -12,12 +12,27 @@ struct phone {
     uint32_t follower;
 };
 
+/* A value that was typed, in the sheet's bytes: how many they are, and how many of them count. */
+struct text {
+    const uint8_t *at;
+    size_t length, counted;
+};
+
+/* How many texts a sheet has, and how many of them are odd: not read to their end, or without a digit; and
+   the first odd one, with what it is. */
+struct texts {
+    size_t count, odd;
+    struct text first;
+    char what[32];
+};
+
 struct phones {
     struct phone *at;
     size_t count;
+    struct texts texts;
 };
 
-/* What is wrong with a sheet: the refusal's number, 8 or 9, the byte where it begins, and the reason. */
+/* What is wrong with a sheet: the refusal's number, 8, 9 or 17, the byte where it begins, and the reason. */
 struct flaw {
     uint32_t number;
     size_t place;

@@ -1,10 +1,12 @@
 """Voice files and call sheets: reads and writes them, for the tools and the tests. docs/FORMATS.md tells the formats.
 
 A writer takes what it is given, fit or not, so that tests can write unfit files; a reader raises Refused with the
-engine's number. Names are bytes. A sheet's value is (WHOLE, number), (FLOAT, bits) or (ABSENT, None).
+engine's number. Names are bytes. A sheet's value is (WHOLE, number), (FLOAT, bits), (ABSENT, None) or (TEXT, bytes).
 """
 import math
+import re
 import struct
+from decimal import Decimal
 from typing import NamedTuple
 
 
@@ -58,6 +60,23 @@ def f32(number):
 
 def f32_from_bits(bits):
     return struct.unpack("<f", u32(bits))[0]
+
+
+def f32_bits(text):
+    """The bits of the f32 nearest to a decimal, ties to the even one. Raises OverflowError where it is too large."""
+    near = float(text)
+    exact = Decimal(text)
+    if math.isfinite(near) and Decimal(near) != exact:
+        near = odd_neighbour(near, exact)
+    return struct.unpack("<I", f32(near))[0]
+
+
+def odd_neighbour(near, exact):
+    """Of the two doubles around `exact`, of which `near` is one, that with an odd last bit: rounding it once more
+    then gives what rounding `exact` at once would give."""
+    if struct.unpack("<Q", struct.pack("<d", near))[0] % 2:
+        return near
+    return math.nextafter(near, math.inf if exact > Decimal(near) else -math.inf)
 
 
 def is_utf8(data):
@@ -273,7 +292,8 @@ def read_index(header, voice, section):
 
 MOST = 4096  # segments, and targets
 LONGEST_NAME = 32
-WHOLE, FLOAT, ABSENT = 0, 1, 2
+LONGEST_TEXT = 12
+WHOLE, FLOAT, ABSENT, TEXT = 0, 1, 2, 3
 NONE = ABSENT, None  # the absent value
 
 
@@ -282,11 +302,27 @@ def real(number):
     return FLOAT, struct.unpack("<I", f32(number))[0]
 
 
+def counted_part(text):
+    """The part of a text that counts, a decimal: a sign in front, digits and one point, up to anything else. Without a
+    digit it is 0."""
+    front = re.match(rb"[+-]?[0-9]*\.?[0-9]*", text)[0].decode()
+    return front if front.strip("+-.") else "0"
+
+
+def is_odd(value):
+    """Whether a value is a text that is not read to its end or has no digit."""
+    kind, text = value
+    return kind == TEXT and counted_part(text).encode() != text
+
+
 def number_of(value):
-    """A value as a number; a whole one is rounded to f32. An absent end or pos is 0; of f0s see f0s_counted."""
+    """A value as a number; a whole one and a text are rounded to f32. An absent end or pos is 0; of f0s see
+    f0s_counted."""
     kind, word = value
     if kind == ABSENT:
         return 0.0
+    if kind == TEXT:
+        return f32_from_bits(f32_bits(counted_part(word)))
     return f32_from_bits(word) if kind == FLOAT else struct.unpack("<f", f32(word))[0]
 
 
@@ -326,7 +362,7 @@ class Target(NamedTuple):
 
 
 class SheetReader(Cursor):
-    """A place in a sheet. What cannot be read is 8, a float that is not finite 9."""
+    """A place in a sheet. What cannot be read is 8, a float that is not finite 9, a text too long 17."""
 
     def __init__(self, sheet):
         super().__init__(sheet, 8, "the sheet")
@@ -356,12 +392,20 @@ class SheetReader(Cursor):
         start, kind = self.at, self.take(1)[0]
         if kind == ABSENT:
             return NONE
+        if kind == TEXT:
+            return kind, self.text(start)
         if kind not in (WHOLE, FLOAT):
             raise self.refuse(f"a value of kind {kind}", start)
         word = struct.unpack("<i" if kind == WHOLE else "<I", self.take(4))[0]
         if kind == FLOAT and not math.isfinite(f32_from_bits(word)):
             raise self.refuse("a float that is not finite", start, 9)
         return kind, word
+
+    def text(self, start):
+        length = self.take(1)[0]
+        if length > LONGEST_TEXT:
+            raise self.refuse(f"a text of {length} bytes, {LONGEST_TEXT} is the most", start, 17)
+        return self.take(length)
 
 
 def read_sheet(sheet):
@@ -389,6 +433,8 @@ def value_bytes(value):
     kind, word = value
     if word is None:
         return bytes([kind])
+    if kind == TEXT:
+        return bytes([kind, len(word)]) + word
     return bytes([kind]) + struct.pack("<i" if kind == WHOLE else "<I", word)
 
 

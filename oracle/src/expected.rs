@@ -13,13 +13,14 @@ use crate::reference::{self, Filled, Fitness, Parsed};
 use crate::refusal::Refusal;
 use crate::sheet::{self, Sheet};
 use crate::taking::{Taken, Taking, Tally};
+use crate::text_calls::Typed;
 use crate::voicefile::{self, Voice};
 
 pub const SHORT_BUFFER: usize = 13;
 
 /// Every number that a call can answer.
 pub fn answers() -> impl Iterator<Item = usize> {
-    (0..=SHORT_BUFFER).chain([Refusal::MissingPair.number()])
+    (0..=SHORT_BUFFER).chain([Refusal::MissingPair, Refusal::LongText].map(Refusal::number))
 }
 
 /// The most that a call may make.
@@ -55,6 +56,8 @@ pub struct Spoken {
     pub departure: Departure,
     /// Where the sheet has targets without a pitch.
     pub boxes: Option<Boxes>,
+    /// Where it has texts.
+    pub typed: Option<Typed>,
 }
 
 /// What a pull shows: its number, and every byte of its slice afterwards.
@@ -146,6 +149,7 @@ fn speak(
     Some(Spoken {
         departure,
         boxes,
+        typed: Typed::of(voice, sheet, settings),
         ..spoken(voice, &filled, periods, &taking)
     })
 }
@@ -188,6 +192,7 @@ fn spoken(read: &Voice, filled: &Filled, periods: Vec<Vec<i16>>, taking: &Taking
         tally: taking.tally(filled),
         departure: Departure::default(),
         boxes: None,
+        typed: None,
     }
 }
 

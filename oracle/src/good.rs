@@ -8,7 +8,7 @@ use crate::diphone::DiphoneVoice;
 use crate::dsp;
 use crate::empty_boxes::{self, Boxes};
 use crate::gen::voices::{self, Extent, Vocabulary, VoiceSpec};
-use crate::gen::{empty_heads, pitches, shaped, sheets, target_ends};
+use crate::gen::{empty_heads, pitches, shaped, sheets, target_ends, typed};
 use crate::pairs;
 use crate::pitch_checks;
 use crate::pitches::goes_on;
@@ -18,6 +18,7 @@ use crate::report::Report;
 use crate::rng::Rng;
 use crate::sheet::{self, Sheet};
 use crate::taking::{self, Taking};
+use crate::text_calls::{self, Typed};
 use crate::voicefile::{self, Voice};
 
 const SHEETS_PER_VOICE: usize = 3;
@@ -54,6 +55,10 @@ pub struct Counts {
     pub guarded: [u64; 3],
     pub departure: departure::Counts,
     pub boxes: empty_boxes::Counts,
+    pub typed: text_calls::Counts,
+    /// Calls with texts, and their periods, that are spoken as with the floats that
+    /// they stand for.
+    pub alike: [u64; 2],
     /// Pairs of calls of which one's sheet begins the other's, by join; then those
     /// with more marks, and those whose longer sheet goes on without a pitch.
     pub begun: [u64; 5],
@@ -156,6 +161,31 @@ pub fn run_pitches(seed: u64, case: u64, report: &mut Report, counts: &mut Count
     one.read_back(&first);
     one.read_back(&second);
     one.extended(rng, &spec, &first, &second);
+}
+
+/// A sheet with texts in each manner in turn, and a longer one. By the Rust it is
+/// spoken as the sheet with the floats that they stand for.
+pub fn run_typed(seed: u64, case: u64, report: &mut Report, counts: &mut Counts) {
+    let rng = &mut Rng::for_case(seed, 4_950_000 + case);
+    let (_, spec, first) = typed::numbered(rng, case);
+    let second = typed::longer(rng, &first, &spec);
+    let mut one = Case {
+        case,
+        report,
+        counts,
+    };
+    one.read_back(&first);
+    one.read_back(&second);
+    let begins = second.begins_with(&first);
+    one.report
+        .check(begins, || "longer sheet with texts".into());
+    one.extended(rng, &spec, &first, &second);
+    let file = voices::file(&spec.sections());
+    if let Some(voice) = Opened::new(&file, case, one.report) {
+        for settings in Settings::named() {
+            one.alike(&voice, &first, settings);
+        }
+    }
 }
 
 /// A voice opened by both readers.
@@ -364,6 +394,19 @@ impl Case<'_> {
         }
     }
 
+    /// A sheet with texts, and the same with the floats that they stand for.
+    fn alike(&mut self, voice: &Opened, sheet: &Sheet, settings: Settings) {
+        let [texts, floats] =
+            [sheet, &sheet.as_read()].map(|sheet| self.speak(voice, sheet, settings));
+        let case = self.case;
+        self.report.check(texts == floats, || {
+            format!("case {case}: {settings:?}: spoken otherwise with floats for texts")
+        });
+        if let Some(periods) = texts {
+            add(&mut self.counts.alike, [1, periods.len()]);
+        }
+    }
+
     /// Under one voice and settings, where neither call is refused, the Rust's marks
     /// of a sheet begin those of a longer one. They do not depend on the filter.
     fn marks_law(&mut self, voice: &Opened, s: &Sheet, t: &Sheet, settings: Settings) {
@@ -471,6 +514,8 @@ impl Case<'_> {
         self.counts.departure.add(&departure);
         let boxes = Boxes::of(&voice.read, &voice.rust, sheet, settings, &filled, &periods);
         boxes.iter().for_each(|boxes| self.counts.boxes.add(boxes));
+        let typed = Typed::of(&voice.read, sheet, settings);
+        typed.iter().for_each(|typed| self.counts.typed.add(typed));
         let taking = Taking::new(&voice.read, &voice.rust, &filled, settings.join);
         // What is filled does not depend on the filter.
         if settings.filter_in() == Filter::Fixed {

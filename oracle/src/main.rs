@@ -63,6 +63,12 @@ mod statements;
 mod states;
 mod store;
 mod taking;
+mod text_calls;
+mod text_checks;
+#[cfg(feature = "probe")]
+mod text_floats;
+mod text_inputs;
+mod texts;
 #[cfg(feature = "probe")]
 mod voicecodes;
 mod voicefile;
@@ -76,6 +82,7 @@ const USAGE: &str = "usage:
   oracle statements [--seed N] [--from N] [--count N] --out FILE
   oracle store [--seed N] [--count N] --out FILE
   oracle floats [--seed N] [--count N] [--all]
+  oracle texts [--seed N] [--count N]
   oracle codecs [--seed N] [--count N]
   oracle codecs --codes FILE [--count N]
   oracle filters [--seed N] [--count N]
@@ -103,11 +110,15 @@ fn main() -> ExitCode {
         #[cfg(feature = "probe")]
         "floats" => floats::run(&args),
         #[cfg(feature = "probe")]
+        "texts" => text_floats::run(&args),
+        #[cfg(feature = "probe")]
         "codecs" => codecs::run(&args),
         #[cfg(feature = "probe")]
         "filters" => filters::run(&args),
         #[cfg(not(feature = "probe"))]
-        "floats" | "codecs" | "filters" => return usage("built without the feature probe"),
+        "floats" | "texts" | "codecs" | "filters" => {
+            return usage("built without the feature probe")
+        }
         #[cfg(all(feature = "diphone_c", feature = "probe_call"))]
         "openings" => openings::run(&args),
         #[cfg(not(all(feature = "diphone_c", feature = "probe_call")))]

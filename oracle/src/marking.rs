@@ -6,27 +6,31 @@ use crate::call::{self, Ending, Join, Settings};
 use crate::diphone::access;
 use crate::ends;
 use crate::gen::voices::{self, Extent};
-use crate::gen::{damaged_calls, damaged_sheets, end_calls, pitch_calls};
-use crate::gen::{pitches, sheets, target_ends};
+use crate::gen::{damaged_calls, damaged_sheets, damaged_texts, end_calls, pitch_calls};
+use crate::gen::{pitches, sheets, target_ends, typed, typed_calls};
 use crate::pitches::{has_empty_box, zeroed};
 use crate::probe_call;
 use crate::reference::{self, Parsed};
-use crate::refusal::Refusal;
+use crate::refusal::{numbered, ByNumber, Refusal, LAST};
 use crate::report::Report;
 use crate::rng::Rng;
-use crate::sheet::{self, Sheet};
+use crate::sheet::{self, Sheet, Value};
 use crate::voicefile;
 
 /// Voices, each with some sheets, in a run that is not told otherwise.
 const CASES: u64 = 2_000;
 const SHEETS_PER_VOICE: usize = 3;
 const DAMAGED_SHEETS: u64 = 40;
+const DAMAGED_TEXTS: u64 = 6;
 
 /// Sheets with target ends of each manner in turn.
 const ENDS: u64 = 600;
 
 /// Sheets with targets without a pitch, in each manner in turn.
 const PITCHES: u64 = 600;
+
+/// Sheets with texts, in each manner in turn.
+const TYPED: u64 = 640;
 
 /// A buffer for all marks that a call may have.
 const ROOM: usize = 4 * call::MAX_MARKS + 8;
@@ -37,7 +41,7 @@ struct Counts {
     sheets: u64,
     marks: u64,
     /// By the number answered; 0 counts the sheets whose marks were made.
-    answers: [u64; 16],
+    answers: ByNumber,
     beside_rust: u64,
     not_asked: u64,
     units: u64,
@@ -50,6 +54,8 @@ struct Counts {
     /// those with other marks than its own on the sheet as it stands, and with
     /// the same.
     boxes: [u64; 2],
+    /// Those with texts so compared, and their texts.
+    typed: [u64; 2],
 }
 
 pub fn run(args: &Args) -> bool {
@@ -66,45 +72,81 @@ pub fn run(args: &Args) -> bool {
             check(&file, &sheet::write(&sheet), &mut report, &mut counts);
         }
     }
-    for case in 0..ENDS {
-        let rng = &mut Rng::for_case(args.seed, 7_500_000 + case);
-        let (_, spec, sheet) = target_ends::numbered(rng, case);
-        let file = voices::file(&spec.sections());
-        check(&file, &sheet::write(&sheet), &mut report, &mut counts);
-    }
-    for case in 0..PITCHES {
-        let rng = &mut Rng::for_case(args.seed, 7_600_000 + case);
-        let (_, spec, sheet) = pitches::numbered(rng, case);
-        let file = voices::file(&spec.sections());
-        let longer = pitches::longer(rng, &sheet, &spec);
-        for sheet in [sheet, longer] {
-            check(&file, &sheet::write(&sheet), &mut report, &mut counts);
-        }
-    }
-    let calls = [damaged_calls::all(), end_calls::all(), pitch_calls::all()];
+    check_manners(args.seed, &mut report, &mut counts);
+    let calls = [
+        damaged_calls::all(),
+        end_calls::all(),
+        pitch_calls::all(),
+        typed_calls::all(),
+    ];
     for call in calls.concat() {
         check(&call.voice, &call.sheet, &mut report, &mut counts);
     }
-    for case in 0..DAMAGED_SHEETS {
-        let rng = &mut Rng::for_case(args.seed, 2_000_000 + case);
-        let words = voices::vocabulary(rng);
-        let small = damaged_sheets::small(rng, &words.phones);
-        for damaged in damaged_sheets::of_sheet(&small) {
-            check_read(&damaged.bytes, damaged.label, &mut report, &mut counts);
-        }
-    }
-    for limit in damaged_sheets::limits() {
-        check_read(&limit.bytes, limit.label, &mut report, &mut counts);
-    }
-    let met = [counts.own, counts.rounded, counts.boxes].concat();
-    report.check(!met.contains(&0), || {
-        format!("units by their ends, sheets with empty boxes: {met:?}")
-    });
+    check_damaged(args.seed, &mut report, &mut counts);
+    check_reached(&mut report, &counts);
     print(args.seed, cases, &report, &counts);
     report.failures == 0
 }
 
-/// A sheet that is refused with 8 or 9, or read.
+/// Target ends, targets without a pitch and texts in each manner in turn, the latter
+/// two with longer sheets.
+fn check_manners(seed: u64, report: &mut Report, counts: &mut Counts) {
+    for case in 0..ENDS {
+        let rng = &mut Rng::for_case(seed, 7_500_000 + case);
+        let (_, spec, sheet) = target_ends::numbered(rng, case);
+        let file = voices::file(&spec.sections());
+        check(&file, &sheet::write(&sheet), report, counts);
+    }
+    for case in 0..PITCHES {
+        let rng = &mut Rng::for_case(seed, 7_600_000 + case);
+        let (_, spec, sheet) = pitches::numbered(rng, case);
+        let file = voices::file(&spec.sections());
+        let longer = pitches::longer(rng, &sheet, &spec);
+        for sheet in [sheet, longer] {
+            check(&file, &sheet::write(&sheet), report, counts);
+        }
+    }
+    for case in 0..TYPED {
+        let rng = &mut Rng::for_case(seed, 7_700_000 + case);
+        let (_, spec, sheet) = typed::numbered(rng, case);
+        let file = voices::file(&spec.sections());
+        let longer = typed::longer(rng, &sheet, &spec);
+        for sheet in [sheet, longer] {
+            check(&file, &sheet::write(&sheet), report, counts);
+        }
+    }
+}
+
+/// Damaged sheets, and sheets at a limit.
+fn check_damaged(seed: u64, report: &mut Report, counts: &mut Counts) {
+    let mut damaged = Vec::new();
+    for case in 0..DAMAGED_SHEETS {
+        let rng = &mut Rng::for_case(seed, 2_000_000 + case);
+        let words = voices::vocabulary(rng);
+        let small = damaged_sheets::small(rng, &words.phones);
+        damaged.extend(damaged_sheets::of_sheet(&small));
+    }
+    for case in 0..DAMAGED_TEXTS {
+        let rng = &mut Rng::for_case(seed, 2_100_000 + case);
+        damaged.extend(damaged_texts::of_random_sheet(rng));
+    }
+    damaged.extend(damaged_sheets::limits());
+    damaged.extend(damaged_texts::limits());
+    for damaged in damaged {
+        check_read(&damaged.bytes, damaged.label, report, counts);
+    }
+}
+
+fn check_reached(report: &mut Report, counts: &Counts) {
+    let met = [counts.own, counts.rounded, counts.boxes, counts.typed].concat();
+    report.check(!met.contains(&0), || {
+        format!("units by their ends, sheets with empty boxes, with texts: {met:?}")
+    });
+    let long = counts.answers[Refusal::LongText.number()];
+    report.check(long > 0, || "17 was not answered".to_string());
+}
+
+/// A sheet that is refused with 8, 9 or 17, or read.
 fn check_read(bytes: &[u8], label: Option<Refusal>, report: &mut Report, counts: &mut Counts) {
     match (label, sheet::read(bytes)) {
         (Some(refusal), _) => answered(bytes, 8000, Err(refusal), report, counts),
@@ -158,7 +200,8 @@ fn answered(
     }
     for (room, expected) in rooms {
         let (found, kept) = probe_call::pitch_marks(bytes, rate, room);
-        counts.answers[found.as_ref().err().copied().unwrap_or(0) as usize % 16] += 1;
+        let number = found.as_ref().err().copied().unwrap_or(0) as usize;
+        counts.answers[number.min(LAST)] += 1;
         report.equal(&expected, &found, || format!("marks in {room} bytes"));
         report.check(kept, || format!("bytes past the marks in {room} bytes"));
     }
@@ -192,6 +235,10 @@ fn beside_rust(
         let own = ends.then(|| access::pitch_marks(&rust, &reference::as_it_stands(sheet)));
         counts.boxes[usize::from(own == Some(theirs))] += 1;
     }
+    let is_text = |value: &&Value| matches!(value, Value::Text(_));
+    let texts = sheet.values().iter().filter(is_text).count();
+    counts.typed[0] += u64::from(texts > 0);
+    counts.typed[1] += texts as u64;
 }
 
 /// The units, folded and not, are the Rust's, where an end moves with rounded
@@ -290,14 +337,9 @@ fn print(seed: u64, cases: u64, report: &Report, counts: &Counts) {
         "  sheets with targets without a pitch: {other} with other marks than the Rust's own, \
          {same} with the same"
     );
-    let answers: Vec<String> = counts
-        .answers
-        .iter()
-        .enumerate()
-        .filter(|(_, count)| **count > 0)
-        .map(|(number, count)| format!("{number}: {count}"))
-        .collect();
-    println!("  answers by number: {}", answers.join(", "));
+    let [sheets, texts] = counts.typed;
+    println!("  sheets with texts: {sheets}, {texts} texts");
+    println!("  answers by number: {}", numbered(&counts.answers));
     println!(
         "  compared with the Rust: {} sheets; not asked, as it would not end soon: {}",
         counts.beside_rust, counts.not_asked

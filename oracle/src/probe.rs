@@ -17,6 +17,7 @@ unsafe extern "C" {
     pub safe fn probe_divide_by_16384(acc: u32) -> u32;
     pub safe fn probe_ulaw_to_i16(byte: u8) -> i16;
     pub safe fn probe_i16_to_ulaw(sample: i16) -> u8;
+    fn probe_text_to_f32(text: *const u8, text_len: usize) -> f32;
     fn probe_decode_adpcm(packed: *const u8, packed_len: usize, out: *mut u8, out_len: usize);
     fn probe_resynthesise(
         filter: u32,
@@ -33,7 +34,13 @@ unsafe extern "C" {
     );
 }
 
-/// A slice reaches C as a pointer and a count.
+// A slice reaches C as a pointer and a count.
+
+pub fn text_to_f32(text: &[u8]) -> f32 {
+    // SAFETY: it is a slice of its length.
+    unsafe { probe_text_to_f32(text.as_ptr(), text.len()) }
+}
+
 pub fn decode_adpcm(packed: &[u8], out: &mut [u8]) {
     // SAFETY: both are slices of their lengths, and they do not overlap.
     unsafe { probe_decode_adpcm(packed.as_ptr(), packed.len(), out.as_mut_ptr(), out.len()) }

@@ -101,13 +101,14 @@ fn add_followers(utt: &mut Utterance, sheet: &Sheet, segments: &[ItemId]) {
     }
 }
 
-/// An absent value is a feature that is not set.
+/// An absent value is a feature that is not set, a text one that is a text.
 fn set_value(utt: &mut Utterance, item: ItemId, name: &str, value: Value) {
     use crate::value::Value as Feature;
     match value {
         Value::Whole(n) => utt.set_feature(item, name, Feature::Int(n)),
         Value::Float(bits) => utt.set_feature(item, name, Feature::Float(f32::from_bits(bits))),
         Value::Absent => {}
+        Value::Text(text) => utt.set_str(item, name, text.for_rust()),
     }
 }
 

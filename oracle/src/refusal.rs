@@ -1,5 +1,5 @@
-//! The refusals of document 01 that a voice, a sheet or a call can meet before
-//! any buffer is looked at.
+//! The refusals of documents 01 and 02 that a voice, a sheet or a call can meet
+//! before any buffer is looked at.
 
 #[derive(Clone, Copy, Debug, PartialEq, Eq, PartialOrd, Ord)]
 pub enum Refusal {
@@ -16,6 +16,7 @@ pub enum Refusal {
     TooFar = 11,
     TooManyMarks = 12,
     MissingPair = 16,
+    LongText = 17,
 }
 
 impl Refusal {
@@ -26,7 +27,7 @@ impl Refusal {
 }
 
 /// The largest number of a call's refusal.
-pub const LAST: usize = 16;
+pub const LAST: usize = 17;
 
 /// Counts by a number of document 01's table; 0 counts what is not refused.
 pub type ByNumber = [u64; LAST + 1];

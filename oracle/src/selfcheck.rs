@@ -10,7 +10,8 @@ use crate::expected::{self, Given, Most, SHORT_BUFFER};
 use crate::gen::damaged_calls::{self, LabelledCall};
 use crate::gen::damaged_voices::{self, DamagedVoice, InRust};
 use crate::gen::{
-    damaged_sheets, end_calls, pitch_calls, shaped, sheets, strict_calls, voices, Labelled,
+    damaged_sheets, damaged_texts, end_calls, pitch_calls, shaped, sheets, strict_calls,
+    typed_calls, voices, Labelled,
 };
 use crate::good;
 use crate::pitch_checks;
@@ -20,6 +21,8 @@ use crate::report::Report;
 use crate::report_examples;
 use crate::rng::Rng;
 use crate::sheet;
+use crate::text_calls::Typed;
+use crate::text_checks;
 use crate::voicefile;
 
 /// Good cases (a voice, its extension, sheets and their calls) in a run that
@@ -37,6 +40,9 @@ const ENDS: u64 = 72;
 
 /// Voices with sheets that have targets without a pitch in each manner in turn.
 const PITCHES: u64 = 120;
+
+/// Voices with sheets that have texts in each manner in turn.
+const TYPED: u64 = 64;
 
 /// Random voices and sheets that are damaged in every way.
 const DAMAGED_VOICES: u64 = 12;
@@ -66,6 +72,7 @@ pub fn run(args: &Args) -> bool {
     report_examples::run(&mut report);
     end_checks::run(args.seed, &mut report);
     pitch_checks::run(&mut report);
+    text_checks::run(args.seed, &mut report);
     for case in 0..args.count.unwrap_or(CASES) {
         good::run(args.seed, case, &mut report, &mut good_counts);
     }
@@ -81,12 +88,16 @@ pub fn run(args: &Args) -> bool {
     for case in 0..PITCHES {
         good::run_pitches(args.seed, case, &mut report, &mut good_counts);
     }
+    for case in 0..TYPED {
+        good::run_typed(args.seed, case, &mut report, &mut good_counts);
+    }
     check_voices(args.seed, &mut report, &mut counts);
     check_sheets(args.seed, &mut report, &mut counts);
     check_calls(&mut report, &mut counts);
     check_strict(&mut report, &mut counts);
     check_ends(&mut report, &mut counts, &mut good_counts);
     check_pitches(&mut report, &mut counts, &mut good_counts);
+    check_typed(&mut report, &mut counts, &mut good_counts);
     check_reached(&mut report, &counts.damages, &good_counts);
     print(args.seed, &report, &counts, &good_counts);
     report.failures == 0
@@ -143,7 +154,10 @@ fn check_label(case: &Labelled, found: Option<Refusal>, report: &mut Report, cou
 
 fn check_sheets(seed: u64, report: &mut Report, counts: &mut Counts) {
     let mut cases = damaged_sheets::limits();
+    cases.extend(damaged_texts::limits());
     for case in 0..DAMAGED_SHEETS {
+        let rng = &mut Rng::for_case(seed, 2_100_000 + case);
+        cases.extend(damaged_texts::of_random_sheet(rng));
         let rng = &mut Rng::for_case(seed, 2_000_000 + case);
         let words = voices::vocabulary(rng);
         let small = damaged_sheets::small(rng, &words.phones);
@@ -227,6 +241,26 @@ fn check_pitches(report: &mut Report, counts: &mut Counts, good: &mut good::Coun
     }
 }
 
+/// Calls with texts get their labels; those that are spoken are.
+fn check_typed(report: &mut Report, counts: &mut Counts, good: &mut good::Counts) {
+    for case in typed_calls::all() {
+        let LabelledCall {
+            voice,
+            sheet,
+            settings,
+            ..
+        } = &case;
+        let number = check_call(&case, report, counts).map_or(0, Refusal::number);
+        let given = expected::given(voice, sheet, *settings, Most::ANY);
+        let typed = match given {
+            Some(Given::Spoken(spoken)) => spoken.typed.filter(|_| number == 0),
+            _ => Typed::refused(sheet, *settings, number).filter(|_| number > 0),
+        };
+        report.check(typed.is_some(), || format!("{}: texts", case.reason));
+        typed.iter().for_each(|typed| good.typed.add(typed));
+    }
+}
+
 /// The strict call with no name in its voice: refused with 16 if it has a pair
 /// and its files are good.
 fn without_names(call: LabelledCall) -> LabelledCall {
@@ -290,6 +324,10 @@ fn check_reached(report: &mut Report, damages: &ByNumber, good: &good::Counts) {
     });
     good.departure.check_reached(report);
     good.boxes.check_reached(report);
+    good.typed.check_reached(report);
+    report.check(!good.alike.contains(&0), || {
+        "no text beside its float".into()
+    });
 }
 
 fn print(seed: u64, report: &Report, counts: &Counts, good: &good::Counts) {
@@ -375,6 +413,11 @@ fn print_calls(good: &good::Counts) {
     );
     good.departure.print();
     good.boxes.print();
+    good.typed.print();
+    let [calls, periods] = good.alike;
+    println!(
+        "  calls with texts spoken by the Rust as with floats: {calls}, with {periods} periods"
+    );
 }
 
 /// Those that are refused.

@@ -1,8 +1,10 @@
-//! A call sheet, read and written as document 01 words it. Reading stops at
-//! the first 8 or 9 in reading order.
+//! A call sheet, read and written as document 01 words it, and document 02 its
+//! texts. Reading stops at the first 8, 9 or 17 in reading order.
 
 use crate::pitches;
 use crate::refusal::Refusal;
+use crate::texts::{Text, MAX_TEXT};
+use std::ops::Range;
 
 const MAX_COUNT: usize = 4096;
 const MAX_NAME: usize = 32;
@@ -13,6 +15,8 @@ pub enum Value {
     /// By its bits.
     Float(u32),
     Absent,
+    /// Read as the float that it stands for.
+    Text(Text),
 }
 
 impl Value {
@@ -20,11 +24,23 @@ impl Value {
         Value::Float(x.to_bits())
     }
 
+    pub fn text(bytes: &[u8]) -> Value {
+        Value::Text(Text::new(bytes).expect("a text of at most 12 bytes"))
+    }
+
     pub fn as_f32(self) -> f32 {
-        match self {
+        match self.as_read() {
             Value::Whole(n) => n as f32,
             Value::Float(bits) => f32::from_bits(bits),
-            Value::Absent => 0.0,
+            _ => 0.0,
+        }
+    }
+
+    /// A text as the float that it stands for; all else as it is.
+    pub fn as_read(self) -> Value {
+        match self {
+            Value::Text(text) => Value::Float(text.bits()),
+            other => other,
         }
     }
 }
@@ -51,9 +67,35 @@ pub struct Sheet {
 }
 
 impl Sheet {
-    /// Whether this sheet begins with `other`.
+    /// Whether this sheet begins with `other`, as they are read.
     pub fn begins_with(&self, other: &Sheet) -> bool {
-        self.segments.starts_with(&other.segments) && self.targets.starts_with(&other.targets)
+        let [longer, other] = [self, other].map(Sheet::as_read);
+        longer.segments.starts_with(&other.segments) && longer.targets.starts_with(&other.targets)
+    }
+
+    /// The sheet with its texts as the floats that they stand for.
+    pub fn as_read(&self) -> Sheet {
+        let mut sheet = self.clone();
+        sheet.each_value(|value| *value = value.as_read());
+        sheet
+    }
+
+    /// Every value in reading order.
+    pub fn values(&self) -> Vec<Value> {
+        let mut values = Vec::new();
+        self.clone().each_value(|value| values.push(*value));
+        values
+    }
+
+    /// Goes through the values in reading order.
+    pub fn each_value(&mut self, mut each: impl FnMut(&mut Value)) {
+        for segment in &mut self.segments {
+            each(&mut segment.end);
+        }
+        for target in &mut self.targets {
+            each(&mut target.pos);
+            each(&mut target.f0);
+        }
     }
 
     /// The targets as (pos, f0), each as it is counted.
@@ -63,37 +105,57 @@ impl Sheet {
     }
 }
 
-/// Reads a sheet or refuses it with 8 or 9.
+/// Reads a sheet or refuses it with 8, 9 or 17. Its texts stay texts.
 pub fn read(bytes: &[u8]) -> Result<Sheet, Refusal> {
-    let mut reader = Reader { rest: bytes };
-    let mut sheet = Sheet::default();
-    let count = reader.group_up_to(MAX_COUNT)?;
-    for _ in 0..count {
-        let name = reader.name()?;
-        let end = reader.value()?;
-        let follower = reader.group_up_to(count)?;
-        sheet.segments.push(Segment {
-            name,
-            end,
-            follower,
-        });
-    }
-    for _ in 0..reader.group_up_to(MAX_COUNT)? {
-        let pos = reader.value()?;
-        let f0 = reader.value()?;
-        sheet.targets.push(Target { pos, f0 });
-    }
-    match reader.rest {
-        [] => Ok(sheet),
-        _ => Err(Refusal::Sheet),
-    }
+    Reader::new(bytes).sheet()
+}
+
+/// The texts of a sheet, up to where it is refused, and where their values stand.
+pub fn texts(bytes: &[u8]) -> Vec<(Range<usize>, Text)> {
+    let mut reader = Reader::new(bytes);
+    let _ = reader.sheet();
+    reader.texts
 }
 
 struct Reader<'a> {
+    whole: &'a [u8],
     rest: &'a [u8],
+    texts: Vec<(Range<usize>, Text)>,
 }
 
 impl<'a> Reader<'a> {
+    fn new(bytes: &'a [u8]) -> Reader<'a> {
+        Reader {
+            whole: bytes,
+            rest: bytes,
+            texts: Vec::new(),
+        }
+    }
+
+    fn sheet(&mut self) -> Result<Sheet, Refusal> {
+        let mut sheet = Sheet::default();
+        let count = self.group_up_to(MAX_COUNT)?;
+        for _ in 0..count {
+            let name = self.name()?;
+            let end = self.value()?;
+            let follower = self.group_up_to(count)?;
+            sheet.segments.push(Segment {
+                name,
+                end,
+                follower,
+            });
+        }
+        for _ in 0..self.group_up_to(MAX_COUNT)? {
+            let pos = self.value()?;
+            let f0 = self.value()?;
+            sheet.targets.push(Target { pos, f0 });
+        }
+        match self.rest {
+            [] => Ok(sheet),
+            _ => Err(Refusal::Sheet),
+        }
+    }
+
     fn take(&mut self, count: usize) -> Result<&'a [u8], Refusal> {
         let (taken, rest) = self.rest.split_at_checked(count).ok_or(Refusal::Sheet)?;
         self.rest = rest;
@@ -147,8 +209,26 @@ impl<'a> Reader<'a> {
                     .ok_or(Refusal::NotFinite)
             }
             2 => Ok(Value::Absent),
+            3 => self.text().map(Value::Text),
             _ => Err(Refusal::Sheet),
         }
+    }
+
+    /// A text behind its kind.
+    fn text(&mut self) -> Result<Text, Refusal> {
+        let start = self.place() - 1;
+        let length = usize::from(self.byte()?);
+        if length > MAX_TEXT {
+            return Err(Refusal::LongText);
+        }
+        let text = Text::new(self.take(length)?).expect("at most 12 bytes");
+        self.texts.push((start..self.place(), text));
+        Ok(text)
+    }
+
+    /// How many bytes were read.
+    fn place(&self) -> usize {
+        self.whole.len() - self.rest.len()
     }
 }
 
@@ -201,5 +281,6 @@ pub fn value(value: Value) -> Vec<u8> {
         Value::Whole(n) => with(0, n.to_le_bytes()),
         Value::Float(bits) => with(1, bits.to_le_bytes()),
         Value::Absent => vec![2],
+        Value::Text(text) => [&[3, text.bytes().len() as u8], text.bytes()].concat(),
     }
 }

@@ -1,7 +1,7 @@
 /* Makes document 01's example call through the C interface: what it needs, its plan, its pulls, its
  * report; then calls with empty periods, calls whose phones end between two samples, calls with targets
- * without a pitch, calls that name no filter, strict calls, and calls and pulls that are refused. Ends with 0
- * if all is as it should be. */
+ * without a pitch, calls with times and pitches typed as text, calls that name no filter, strict calls, and
+ * calls and pulls that are refused. Ends with 0 if all is as it should be. */
 #define TEST "call"
 #include "example.h"
 
@@ -22,7 +22,7 @@ enum {
 
 /* ---- sheets: the segments pau and aa */
 
-static uint8_t sheet[80];
+static uint8_t sheet[128];
 static size_t sheet_length;
 
 static void sheet_bytes(const void *data, size_t count)
@@ -37,6 +37,12 @@ static void value(uint8_t kind, uint32_t word)
     uint8_t form[5] = {kind, (uint8_t)word, (uint8_t)(word >> 8), (uint8_t)(word >> 16),
                        (uint8_t)(word >> 24)};
     sheet_bytes(form, kind == 2 ? 1 : 5);
+}
+
+static void put_sheet_word(size_t at, uint32_t word)
+{
+    for (int i = 0; i < 4; i += 1)
+        sheet[at + (size_t)i] = (uint8_t)(word >> 8 * i);
 }
 
 static void segments(uint8_t kind, uint32_t first_end)
@@ -832,6 +838,319 @@ static void short_buffers(uint32_t others)
     expect(all_guard(need, 0, sizeof need), "need one byte short is left");
 }
 
+/* ---- texts in place of floats */
+
+/* A text, and the bits of the float that it counts as. */
+struct typed {
+    const char *text;
+    uint8_t count;
+    uint32_t word;
+};
+
+#define TYPED(text, word) {text, sizeof text - 1, word}
+
+static const struct typed typed_values[] = {
+    TYPED("0.25", 0x3E800000),
+    TYPED("+.5", 0x3F000000),
+    TYPED("0.0311875", 0x3CFF7CEE), /* 249.5 samples */
+    TYPED("0.0311874", 0x3CFF7CB8),
+    TYPED("64", 0x42800000),
+    TYPED("119.99999999", 0x42F00000),
+    TYPED("5.", 0x40A00000),
+    TYPED("-1", 0xBF800000),
+    TYPED("-0", 0x80000000),
+    TYPED("-.0", 0x80000000),
+    TYPED("", 0),
+    TYPED("-", 0),
+    TYPED("-.", 0),
+    TYPED("+-3", 0),
+    TYPED(" 2", 0),
+    TYPED("\0" "2", 0),
+    TYPED("\xFF" "2", 0),
+    TYPED("none", 0),
+    TYPED("0,25", 0),
+    TYPED("0x41", 0),
+    TYPED("120 Hz", 0x42F00000),
+    TYPED("1.5.5", 0x3FC00000),
+    TYPED("1e3", 0x3F800000),
+    TYPED("1\0" "5", 0x3F800000),
+    TYPED("1-5", 0x3F800000),
+    TYPED("1.0000000596", 0x3F800000), /* just below the middle of two floats */
+    TYPED("1.0000000597", 0x3F800001),
+    TYPED("-.0000000001", 0xAEDBE6FF),
+};
+
+static const struct typed longest = TYPED("0.0312500000", 0x3D000000);
+
+enum { VALUES = 6, ALL_VALUES = VALUES, MOST_TYPED = 12 };
+
+static size_t value_places[VALUES]; /* where the values of the sheet begin */
+
+/* The next value: a text or its float, where it stands here, or else a float that fits. */
+static void typed_value(const struct typed *typed, int number, int here, int as_text)
+{
+    static const uint32_t usual[VALUES] = {0x3D000000, 0x3D000000, 0, 0x42800000, 0x3CA3D70A, 0x42800000};
+    uint8_t head[2] = {3, typed->count};
+
+    value_places[number] = sheet_length;
+    if (here != number && here != ALL_VALUES) {
+        value(1, usual[number]);
+    } else if (as_text) {
+        sheet_bytes(head, 2);
+        sheet_bytes(typed->text, typed->count);
+    } else {
+        value(1, typed->word);
+    }
+}
+
+/* Both phones end at sample 250, the targets are (0, 64) and (0.02, 64); but one value, or all, is typed. */
+static void typed_sheet(const struct typed *typed, int here, int as_text)
+{
+    sheet_length = 0;
+    sheet_bytes("\x02\x03pau", 5);
+    typed_value(typed, 0, here, as_text);
+    sheet_bytes("\x00\x02"
+                "aa",
+                4);
+    typed_value(typed, 1, here, as_text);
+    sheet_bytes("\x00\x02", 2);
+    for (int i = 2; i < VALUES; i += 1)
+        typed_value(typed, i, here, as_text);
+}
+
+/* Whether the call with these lengths is short enough for the buffers here. */
+static int is_short(void)
+{
+    for (int i = 0; i < BUFFERS; i += 1)
+        if (lengths[i] > sizeof lent[i])
+            return 0;
+    return lengths[SIZES] <= 4 * MOST_TYPED;
+}
+
+/* With the text all is as with its float: what is answered and left, of a long call what it needs. Answers
+ * whether the call was spoken. */
+static int typed_call(const struct typed *typed, int here, uint32_t settings)
+{
+    uint8_t needed[sizeof need];
+    uint32_t answer;
+
+    typed_sheet(typed, here, 0);
+    answer = needs(settings, sizeof need);
+    memcpy(needed, need, sizeof need);
+    typed_sheet(typed, here, 1);
+    if (answer != 0) {
+        refused_with(answer, settings, typed->text);
+        return 0;
+    }
+    exact(settings);
+    expect(memcmp(needed, need, sizeof need) == 0, typed->text);
+    if (!is_short())
+        return 0;
+    take_all(settings, said[0]);
+    typed_sheet(typed, here, 0);
+    take_all(settings, said[1]);
+    expect(memcmp(said[0], said[1], sizeof said[0]) == 0, typed->text);
+    return lengths[SIZES] > 0;
+}
+
+static void typed_calls(void)
+{
+    static const struct typed huge = TYPED("999999999999", 0x5368D4A5);
+    int spoken = 0;
+
+    for (size_t i = 0; i < sizeof typed_values / sizeof *typed_values; i += 1)
+        for (int here = 0; here <= ALL_VALUES; here += 1)
+            for (uint32_t join = NONE; join <= 3; join += 1)
+                spoken += typed_call(&typed_values[i], here, join | ((uint32_t)i * FIXED & FILTER_BITS));
+    expect(spoken > 400, "many calls with texts are spoken");
+    for (uint32_t join = NONE; join <= 3; join += 1)
+        typed_call(&huge, 0, join);
+}
+
+/* How many marks a call makes whose first pitch is typed; the second, at 2^-13 s, is absent. */
+static uint64_t typed_marks(const struct typed *typed, int as_text)
+{
+    segments(2, 0);
+    sheet_bytes("\x02\x02", 2);
+    typed_value(typed, 0, 0, as_text);
+    value(1, 0x39000000);
+    value(2, 0);
+    expect(needs(MODIFIED, sizeof need) == 0, typed->text);
+    return u64_at(need, 8);
+}
+
+/* How many periods a call has at a rate of 1, with marks at 1, 2 and 8,388,608, whose first phone's end is
+ * typed. */
+static uint64_t typed_periods(const struct typed *typed, int as_text)
+{
+    static const uint32_t f0s[4] = {0x3F800000, 0x3F800000, 0x34000002, 0x34000002};
+
+    sheet_length = 0;
+    sheet_bytes("\x02\x03pau", 5);
+    typed_value(typed, 0, 0, as_text);
+    sheet_bytes("\x00\x02"
+                "aa\x02\x00\x04",
+                7);
+    for (uint32_t i = 0; i < 4; i += 1) {
+        value(0, i);
+        value(1, f0s[i]);
+    }
+    expect(needs(MODIFIED, sizeof need) == 0, typed->text);
+    return u64_at(need, 16);
+}
+
+/* Texts that are a float's middle to the next, and just beside it: which float it is makes a mark, or a
+ * period. */
+static void typed_middles(void)
+{
+    static const struct typed pitches[] = {
+        TYPED("16777217", 0x4B800000),     TYPED("16777217.000", 0x4B800000),
+        TYPED("16777217.001", 0x4B800001), TYPED("16777218.999", 0x4B800001),
+        TYPED("16777216.999", 0x4B800000),
+    };
+    static const struct typed times[] = {
+        TYPED("8388607.25", 0x4AFFFFFE), TYPED("8388607.2501", 0x4AFFFFFF),
+        TYPED("8388607.5", 0x4AFFFFFF),  TYPED("8388607.2499", 0x4AFFFFFE),
+        TYPED("8388607.75", 0x4B000000),
+    };
+
+    example(0, 0, 1);
+    for (size_t i = 0; i < sizeof pitches / sizeof *pitches; i += 1) {
+        expect(typed_marks(&pitches[i], 1) == typed_marks(&pitches[i], 0), pitches[i].text);
+        expect(typed_marks(&pitches[i], 1) == 2048 + (pitches[i].word & 1), pitches[i].text);
+    }
+    put_word(ends[1] + 1 + 10 + 4 + 8, 1); /* the header's rate */
+    for (size_t i = 0; i < sizeof times / sizeof *times; i += 1) {
+        expect(typed_periods(&times[i], 1) == typed_periods(&times[i], 0), times[i].text);
+        expect(typed_periods(&times[i], 1) == (times[i].word == 0x4AFFFFFE ? 2 : 3), times[i].text);
+    }
+    example(0, 0, 1);
+}
+
+/* A text of 12 bytes is read. A length above that is 17, whatever follows, be it nothing; so it is for each
+ * value, in every join. */
+static void long_texts(void)
+{
+    static const uint8_t counts[] = {13, 14, 128, 255};
+
+    for (int here = 0; here < VALUES; here += 1)
+        for (uint32_t join = NONE; join <= 3; join += 1) {
+            typed_sheet(&longest, here, 1);
+            expect(needs(join, sizeof need) == 0, "a text of 12 bytes");
+            for (size_t i = 0; i < sizeof counts; i += 1) {
+                typed_sheet(&longest, here, 1);
+                sheet[value_places[here] + 1] = counts[i];
+                refused_with(DIPHONE_LONG_TEXT, join, "a text that is too long");
+                sheet_length = value_places[here] + 2;
+                refused_with(DIPHONE_LONG_TEXT, join, "a text that is too long, and nothing behind its length");
+            }
+            refused(DIPHONE_LONG_TEXT, join, "a text that is too long, strict or not");
+        }
+}
+
+/* A text without its length or cut short is 8. */
+static void cut_texts(void)
+{
+    for (int here = 0; here < VALUES; here += 1) {
+        typed_sheet(&longest, here, 1);
+        for (sheet_length = value_places[here] + 13; sheet_length > value_places[here]; sheet_length -= 1)
+            refused_with(DIPHONE_BAD_SHEET, MODIFIED, "a text that is cut short");
+    }
+}
+
+/* A value of any kind, with so many bytes of the longest text and its length behind it. */
+static void kind_sheet(int here, uint8_t kind, size_t size)
+{
+    size_t start, end;
+
+    typed_sheet(&longest, here, 1);
+    start = value_places[here] + 1;
+    end = start + 1 + longest.count;
+    memmove(sheet + start + size, sheet + end, sheet_length - end);
+    sheet_length -= end - start - size;
+    sheet[start - 1] = kind;
+}
+
+/* The kinds above 3 are 8, with the bytes that one of the others asks for. */
+static void kinds(void)
+{
+    static const size_t sizes[] = {4, 4, 0, 13};
+
+    for (int here = 0; here < VALUES; here += 1) {
+        for (int kind = 0; kind <= 255; kind += 1) {
+            kind_sheet(here, (uint8_t)kind, sizes[kind % 4]);
+            expect(needs(NONE, sizeof need) == (kind <= 3 ? 0 : DIPHONE_BAD_SHEET), "a value's kind");
+        }
+        for (int form = 0; form <= 3; form += 1) {
+            kind_sheet(here, 4, sizes[form]);
+            refused_with(DIPHONE_BAD_SHEET, MODIFIED, "kind 4");
+            kind_sheet(here, 255, sizes[form]);
+            refused_with(DIPHONE_BAD_SHEET, MODIFIED, "kind 255");
+        }
+    }
+}
+
+/* Of 8, 9 and 17 the one that is met first; the voice's own come before. */
+static void texts_in_order(void)
+{
+    typed_sheet(&longest, ALL_VALUES, 1);
+    sheet[value_places[3] + 1] = 13;
+    refused(17, NONE, "a text that is too long");
+    sheet_bytes("\x00", 1);
+    refused(17, NONE, "it comes before bytes left over");
+    sheet[value_places[4]] = 4;
+    refused(17, NONE, "and before another kind");
+    sheet[value_places[2] + 1] = 11;
+    refused(8, NONE, "a kind of 48 before it");
+    sheet[value_places[1] + 14] = 3; /* the follower of aa */
+    refused(8, NONE, "a follower before it");
+    typed_sheet(&longest, 1, 1);
+    sheet[value_places[1] + 1] = 13;
+    put_sheet_word(value_places[0] + 1, 0x7F800000);
+    refused(9, NONE, "a float that is not finite before it");
+    typed_sheet(&longest, 1, 1);
+    sheet[value_places[1] + 1] = 13;
+    put_sheet_word(value_places[2] + 1, 0x7F800000);
+    refused(17, NONE, "a float that is not finite behind it");
+    length -= 1;
+    refused(2, NONE, "the voice before it");
+    length += 1;
+}
+
+static uint32_t needed_by(const uint8_t *call, size_t call_length)
+{
+    return diphone_need(file, length, call, call_length, NONE, need, sizeof need);
+}
+
+/* Every front of a sheet of texts, in as many bytes: valgrind sees each byte read past them. */
+static void texts_from_the_heap(void)
+{
+    typed_sheet(&longest, ALL_VALUES, 1);
+    for (size_t count = 1; count <= sheet_length; count += 1) {
+        uint8_t *heap = malloc(count);
+        uint32_t answer = count < sheet_length ? 8 : 0;
+        memcpy(heap, sheet, count);
+        expect(needed_by(heap, count) == answer, "a front of a sheet of texts");
+        if (count == value_places[VALUES - 1] + 2) {
+            heap[count - 1] = 13;
+            expect(needed_by(heap, count) == 17, "a text that is too long at the end");
+        }
+        free(heap);
+    }
+}
+
+static void texts(void)
+{
+    example(0, 0, 1);
+    typed_calls();
+    typed_middles();
+    long_texts();
+    cut_texts();
+    kinds();
+    texts_in_order();
+    texts_from_the_heap();
+}
+
 static void unfit_voices(void)
 {
     size_t entries, end;
@@ -993,6 +1312,9 @@ static void missing_pair_in_order(void)
         refused(8, join, "the sheet is cut behind it");
         sheet_bytes("\x01\x01\x00\x00\x80\x7F\x02", 7);
         refused(9, join, "a target behind it is not finite");
+        sheet_length -= 6;
+        sheet_bytes("\x03\x0D", 2);
+        refused(17, join, "a text behind it is too long");
         length -= 1;
         refused(2, join, "the voice is cut");
         length += 1;
@@ -1142,6 +1464,7 @@ int main(void)
     from_the_heap();
     missing_pairs();
     missing_pair_in_order();
+    texts();
     unfit_voices();
     unfit_sheets();
     unfit_calls();

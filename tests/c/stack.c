@@ -1,7 +1,7 @@
 /* Measures how much stack a call takes: each function runs in a thread whose stack was painted, on
  * voices of either codec, in every join and filter: one whose index is out of order, and one in order
- * of more than 4,096 entries. Strict calls are measured too, made and refused. Ends with 0 if none takes
- * more than the 64 KiB that the header names. */
+ * of more than 4,096 entries. Strict calls are measured too, made and refused, and sheets of texts, read
+ * and refused. Ends with 0 if none takes more than the 64 KiB that the header names. */
 #define _XOPEN_SOURCE 700
 #define TEST "stack"
 #define FILE_BYTES 65536
@@ -25,6 +25,16 @@ static const uint8_t loose_sheet[] = "\x03\x03pau\x02\x00\x02"
 /* The follower of pau is pau, so it tries pau_-_aa before pau-aa, which every voice has. */
 static const uint8_t strict_sheet[] = "\x02\x03pau\x02\x01\x02"
                                       "aa\x02\x00";
+/* The longest texts for ends and targets, which give two periods; and one that is too long. */
+static const uint8_t text_sheet[] = "\x02\x03pau\x03\x0C"
+                                    "0.0312500000\x00\x02"
+                                    "aa\x03\x0C"
+                                    "0.0312500000\x00\x02\x03\x0C"
+                                    "-.0000000000\x03\x0C"
+                                    "64.000000000\x03\x0C"
+                                    "0.0200000000\x03\x0C"
+                                    "64.000000000";
+static const uint8_t long_text_sheet[] = {1, 1, 'k', 3, 13};
 static const uint8_t *sheet;
 static size_t sheet_length;
 static uint8_t lent[BUFFERS][LENT], samples[LENT], lines[LENT], need[DIPHONE_NEED_BYTES];
@@ -121,6 +131,7 @@ static void show(const char *what, const size_t *most)
 int main(void)
 {
     size_t loose[FUNCTIONS] = {0}, strict[FUNCTIONS] = {0}, refused[FUNCTIONS] = {0};
+    size_t typed[FUNCTIONS] = {0}, too_long[FUNCTIONS] = {0};
 
     if (posix_memalign((void **)&stack, 4096, STACK) != 0)
         return 1;
@@ -129,11 +140,15 @@ int main(void)
         example(setting % 2, 32, setting < 12 ? 2 : 4098);
         settings = setting / 2 % 3 | filter;
         measure(loose, loose_sheet, sizeof loose_sheet, 0);
+        measure(typed, text_sheet, sizeof text_sheet - 1, 0);
+        measure(too_long, long_text_sheet, sizeof long_text_sheet, DIPHONE_LONG_TEXT);
         settings |= DIPHONE_STRICT;
         measure(strict, strict_sheet, sizeof strict_sheet, 0);
         measure(refused, loose_sheet, sizeof loose_sheet, DIPHONE_MISSING_PAIR);
     }
     show("calls:", loose);
+    show("calls with texts:", typed);
+    show("calls refused with 17:", too_long);
     show("strict calls:", strict);
     show("calls refused with 16:", refused);
     free(stack);

@@ -10,7 +10,7 @@
 
 enum { ENTRIES = 99000, SEGMENTS = 4096, MARKS = 65536 };
 
-static uint8_t sheet[SEGMENTS * 9], index_buffer[8 * ENTRIES], record[DIPHONE_VOICE_BYTES];
+static uint8_t sheet[SEGMENTS * 46], index_buffer[8 * ENTRIES], record[DIPHONE_VOICE_BYTES];
 static uint8_t lines[DIPHONE_REPORT_LINE_BYTES * MARKS];
 static size_t sheet_length;
 
@@ -65,6 +65,21 @@ static void sheet_of_marks(void)
     sheet_bytes(targets, sizeof targets);
 }
 
+/* So many phones and targets, of which each end, place and pitch is this value. */
+static void sheet_of_values(const void *value, size_t count)
+{
+    sheet_length = 0;
+    sheet_bytes("\x80\x20", 2);
+    for (int i = 0; i < SEGMENTS; i += 1) {
+        sheet_bytes("\x01k", 2);
+        sheet_bytes(value, count);
+        sheet_bytes("", 1);
+    }
+    sheet_bytes("\x80\x20", 2);
+    for (int i = 0; i < 2 * SEGMENTS; i += 1)
+        sheet_bytes(value, count);
+}
+
 static uint32_t opened(void)
 {
     return diphone_open(file, length, index_buffer, sizeof index_buffer, record, sizeof record);
@@ -80,6 +95,11 @@ static uint32_t needed_by(uint32_t settings)
 static uint32_t needed(void)
 {
     return needed_by(DIPHONE_JOIN_SIMPLE | DIPHONE_FILTER_FIXED);
+}
+
+static uint32_t needed_alone(void)
+{
+    return needed_by(DIPHONE_JOIN_NONE);
 }
 
 static uint32_t needed_strictly(void)
@@ -114,7 +134,7 @@ static void within(double most, uint32_t (*call)(void), const char *what)
     uint32_t answer = call();
     double seconds = (double)(clock() - start) / CLOCKS_PER_SEC;
 
-    printf("worst: %s: %.3f s\n", what, seconds);
+    printf("worst: %s: %.4f s\n", what, seconds);
     expect(answer == 0, "the call is not refused");
     expect(seconds < most, "it is made in time");
 }
@@ -138,6 +158,10 @@ int main(void)
     within(0.3, reported_by_targets, "65,536 marks of 4,095 pairs are reported");
     expect((uint32_t)u64_at(lines, sizeof lines - DIPHONE_REPORT_LINE_BYTES) == SEGMENTS - 1,
            "the last pair took the last mark");
+    sheet_of_values("\x01\x00\x00\x00\x3D", 5);
+    within(0.1, needed_alone, "4,096 segments and targets of floats are read");
+    sheet_of_values("\x03\x0C.00000000001", 14);
+    within(0.1, needed_alone, "4,096 segments and targets of texts of 12 bytes are read");
     if (failures == 0)
         printf("worst: passed\n");
     return failures != 0;

@@ -20,8 +20,8 @@ from pathlib import Path
 
 sys.path.insert(0, str(Path(__file__).resolve().parent.parent / "tools"))
 import cases
-from cases import EXAMPLES, NONE, REPO, Segment, Target, bits, index_bytes, real, sheet, whole
-from formats import Header, Refused, found_name, number_of, open_voice, read_sheet, shown_name, voice_file
+from cases import EXAMPLES, NONE, REPO, Segment, Target, bits, index_bytes, real, sheet, typed, whole
+from formats import TEXT, Header, Refused, found_name, number_of, open_voice, read_sheet, shown_name, voice_file
 
 PLAYER = os.environ["PLAYER"]
 VALGRIND = ["valgrind", "--quiet", "--leak-check=full", "--error-exitcode=99"] if shutil.which("valgrind") else None
@@ -75,7 +75,7 @@ class InFolder(unittest.TestCase):
         return found
 
     def unfit(self):
-        """The files of calls that are refused, with each number from 1 to 12."""
+        """The files of calls that are refused, with each number from 1 to 12 and 17."""
         voices, sheets = cases.unfit_voices(YARD[0].read_bytes()), [*cases.unfit_sheets(), *cases.unfit_calls()]
         calls = [(self.file(f"{i}.flv", data), YARD[1]) for i, (_, _, data) in enumerate(voices)]
         return calls + [(YARD[0], self.file(f"{i}.sht", data)) for i, (_, _, data) in enumerate(sheets)]
@@ -490,6 +490,38 @@ class Report(InFolder):
         ends = [bits(word) for word in words]
         self.assertEqual(self.sheet_ends(voice, ends), [nearest(number_of(end)) for end in ends])
 
+    def test_typed_ends(self):
+        """At a rate of 1 a text's end is its own f32, the nearest to the exact decimal."""
+        voice = self.file("one.flv", voice_of_halves(1))
+        places = {b"16777217": 16777216, b"16777219": 16777220, b"8388608.5": 8388608, b"8388609.5": 8388610}
+        places |= {b"0.5": 1, b".4999999999": 1, b"0.4999999": 0, b"-3": 0, b"999999999999": 999999995904, b"2e9": 2}
+        self.assertEqual(self.sheet_ends(voice, map(typed, places)), list(places.values()))
+        draw = random.Random(8)
+        texts = [*cases.TEXTS, *cases.ties(draw, 1500), *(cases.random_text(draw) for _ in range(2000))]
+        ends = [nearest(number_of(bits(cases.nearest_bits(text)))) for text in texts]
+        self.assertEqual(self.sheet_ends(voice, map(typed, texts)), ends)
+
+    def test_typed_late_ends(self):
+        """So the engine reads them: at a rate of 1, with marks at 1, 2 and 8,388,608, how many are taken."""
+        voice = self.file("one.flv", voice_of_halves(1))
+        pitches = whole(1), whole(1), bits(0x34000002), bits(0x34000002)
+        targets = [Target(typed(b"%d" % place), pitch) for place, pitch in enumerate(pitches)]
+        for text, count in {
+            b"8388607.25": 2,  # in the middle, and the even one is below
+            b"8388607.2501": 3,
+            b"8388607.2499": 2,
+            b"8388607.5": 3,
+            b"8388607.75": 3,
+            b"8388607e9": 2,
+            b"2.4 seconds": 2,
+            b"1.50.": 2,
+            b".5000000000": 1,
+            b" 8388608": 0,
+        }.items():
+            call = self.file("call.sht", sheet([Segment(b"a", typed(text))] * 2, targets))
+            report = report_text(report_of([1, 1, 8388606][:count], [0] * count), [Segment(b"a")] * 2)
+            self.assertEqual(run(voice, call, "--report")[:2], (0, report), text)
+
     def test_rounded_ends(self):
         """At a rate of 1, with a mark at each of 1 to 5: the pair and half of each period, by the ends of its phones."""
         voice = self.file("one.flv", voice_of_halves(1))
@@ -596,7 +628,7 @@ class Report(InFolder):
         for files in self.unfit():
             self.assertIsNone(self.check(*files))
             seen.add(int(run(*files, "--report")[2].split()[2].rstrip(":")))
-        self.assertEqual(seen, set(range(1, 13)))
+        self.assertEqual(seen, {*range(1, 13), 17})
 
     def test_wav(self):
         """Sound is written where --wav names a file, as it is without the table."""
@@ -660,7 +692,7 @@ class Filter(InFolder):
             message = unnamed[0][0][2]
             self.assertEqual({*unnamed, *fixed}, {((1, b"", message), None)})
             seen.add(int(re.match("player: refused ([0-9]+): ", message)[1]))
-        self.assertEqual(seen, set(range(1, 13)))
+        self.assertEqual(seen, {*range(1, 13), 17})
 
     def test_named_twice(self):
         """The last one counts."""
@@ -806,6 +838,122 @@ class Pitch(InFolder):
         self.assertGreater(len(told[1]), 10_000)
 
 
+def with_values(value, segments, targets):
+    """Segments and targets, of which each value is another."""
+    targets = [Target(value(pos), value(f0)) for pos, f0 in targets]
+    return [segment._replace(end=value(segment.end)) for segment in segments], targets
+
+
+def typed_yard():
+    """The segments and targets of YARD, of which each value is typed."""
+    return with_values(lambda value: typed(b"%.7g" % number_of(value)), *read_sheet(YARD[1].read_bytes()))
+
+
+def as_floats(segments, targets):
+    """A sheet with the floats that its texts count as, by whole numbers alone."""
+    read = lambda value: bits(cases.nearest_bits(value[1])) if value[0] == TEXT else value
+    return sheet(*with_values(read, segments, targets))
+
+
+class Texts(InFolder):
+    """Times and pitches typed as text: the call is that of the sheet with the floats. A note is all that is added."""
+
+    def files(self, *parts):
+        """A sheet, and the one with the floats."""
+        return self.file("text.sht", sheet(*parts)), self.file("float.sht", as_floats(*parts))
+
+    def both(self, *parts, words=()):
+        """What is told of a sheet in every form is as with the floats, but for a note. Returns the notes."""
+        calls, notes = self.files(*parts), set()
+        told, full = (self.told((YARD[0], call), *words) for call in calls)
+        for ((status, text, message), sound), other in zip(told, full):
+            lines = message.splitlines(True)
+            notes.update(line for line in lines if " texts in " in line)
+            message = "".join(line for line in lines if " texts in " not in line)
+            self.assertTrue(((status, text, message), sound) == other, (parts, words))
+        return notes
+
+    def test_yard(self):
+        """All values typed: the samples are those of the Rust, and nothing is noted."""
+        parts = typed_yard()
+        floats = with_values(lambda value: real(number_of(value)), *read_sheet(YARD[1].read_bytes()))
+        self.assertEqual(as_floats(*parts), sheet(*floats))
+        for join, how in itertools.product(JOINS, FILTERS):
+            self.assertEqual(self.both(*parts, words=("--join", join, *how)), set())
+        for (join, how), expected in DIGESTS.items():
+            raw = run(YARD[0], self.folder / "text.sht", "--raw", "--join", join, "--filter", how)[1]
+            self.assertEqual((len(raw) // 2, hashlib.sha256(raw).hexdigest()[:16]), expected)
+
+    def test_odd(self):
+        """What is not read to its end, or has no digit, is spoken as what counts."""
+        segments, targets = typed_yard()
+        calls = []
+        for end in (b"0.19s", b"0.19,", b"0,19", b"", b"-", b" 0.19", b"0.19e1", b"+.19s", b"+-.19", b"0.19\xb5s"):
+            calls.append(([segments[0], segments[1]._replace(end=typed(end)), *segments[2:]], targets))
+        for f0 in (b"132 Hz", b"1,32", b"132.0.1", b"132e1", b" 132", b"\x00132"):
+            calls.append((segments, [targets[0], targets[1]._replace(f0=typed(f0)), *targets[2:]]))
+        for pos in (b"0.2s", b"0,2", b"+.20."):
+            calls.append((segments, [targets[0], targets[1]._replace(pos=typed(pos)), *targets[2:]]))
+        for call in calls:
+            self.assertEqual(len(self.both(*call)), 1, call)
+            self.assertGreater(len(run(YARD[0], self.folder / "text.sht", "--raw")[1]), 2000, call)
+
+    def test_no_digit(self):
+        """It is 0 Hz, not a pitch that goes on."""
+        spoken = []
+        for f0 in (typed(b"none"), typed(b""), whole(0), NONE):
+            targets = [Target(whole(0), whole(100)), Target(real(0.5), f0), Target(whole(1), whole(100))]
+            call = self.file("call.sht", sheet(Pitch.PHONES, targets))
+            spoken.append(run(YARD[0], call, "--raw")[1])
+        self.assertTrue(spoken[0] == spoken[1] == spoken[2] != spoken[3])
+        self.assertGreater(len(spoken[0]), 2000)
+
+    def random_value(self, draw, most):
+        return typed(cases.random_text(draw) if draw.randrange(8) == 0 else b"%.4f" % draw.uniform(0, most))
+
+    def test_random(self):
+        """Texts of every kind, in calls that are spoken and calls that are refused."""
+        draw, refused = random.Random(9), set()
+        for _ in range(80):
+            phones = [draw.choice([b"pau", b"n", b"ay"]) for _ in range(draw.randrange(2, 7))]
+            segments = [Segment(phone, self.random_value(draw, 1)) for phone in phones]
+            count = draw.randrange(5)
+            targets = [Target(self.random_value(draw, 1), self.random_value(draw, 200)) for _ in range(count)]
+            calls = self.files(segments, targets)
+            for form in (("--report",), ("--ends",), ("--raw", "--filter=fixed")):
+                told, full = (run(YARD[0], call, *form) for call in calls)
+                self.assertTrue(told[:2] == full[:2], (segments, targets, form))
+                numbers = [re.findall("refused [0-9]+", message) for *_, message in (told, full)]
+                self.assertEqual(*numbers)
+                refused.update(numbers[0] or ["spoken"])
+        self.assertGreater(len(refused), 2, refused)
+
+    def test_most(self):
+        """4,096 segments and targets, all of 12 bytes."""
+        segments = [Segment(b"n", typed(b"%012.9f" % (number / 4096))) for number in range(1, 4097)]
+        targets = [Target(segment.end, typed(b"100.00000000")) for segment in segments]
+        calls = self.files(segments, targets)
+        self.assertEqual(len(calls[0].read_bytes()), 2 + 4096 * 17 + 2 + 4096 * 28)
+        for form in ("--raw", "--report", "--ends"):
+            told, full = (run(YARD[0], call, form) for call in calls)
+            self.assertTrue(told == full)
+            self.assertEqual(told[0], 0)
+
+    def test_person(self):
+        """A person's way: a text with quotes, made a sheet and spoken."""
+        phones = {"pau": "0.2", "n": ".5", "ay": "0,8", "m": "1"}
+        lines = "".join(f'segment {name} "{end}" -\n' for name, end in phones.items())
+        lines += 'target "0.2" "95 Hz"\ntarget "1" -\n'
+        command = [REPO / "tools/sheet", "encode", "-", "-"]
+        data = subprocess.run(command, input=lines.encode(), stdout=subprocess.PIPE, check=True).stdout
+        call = self.file("call.sht", data)
+        status, text, message = run(YARD[0], call, "--ends")
+        self.assertEqual([line.split()[2] for line in text.splitlines()], [b"1600", b"4000", b"0", b"8000"])
+        why = 'not read to the end or without a digit: "0,8", the end of segment 3, counts as 0, ..'
+        notes = [line for line in message.splitlines() if " pairs " not in line]
+        self.assertEqual((status, notes), (0, [f"player: note: 2 of 7 texts in {call} {why}"]))
+
+
 class Notes(InFolder):
     """What a person is told on standard error; the call is spoken as the engine does."""
 
@@ -863,6 +1011,64 @@ class Notes(InFolder):
             strict.add(done[0])
         self.assertEqual(strict, {0, 1})
 
+    # Texts, as they are shown, and as they count.
+    ODD_TEXTS = [
+        (b"0,25", "0,25", "0"),
+        (b"1.50s", "1.50s", "1.50"),
+        (b"-1e3", "-1e3", "-1"),
+        (b"-0 ", "-0 ", "-0"),
+        (b"+.5.", "+.5.", "+.5"),
+        (b"5.x", "5.x", "5."),
+        (b"1-5", "1-5", "1"),
+        (b"+-3", "+-3", "0"),
+        (b" 2", " 2", "0"),
+        (b"", "", "0"),
+        (b"-.", "-.", "0"),
+        (b'"\\#', '\\"\\\\#', "0"),
+        (b"\x1b[31m\x07", "\\x1b[31m\\x07", "0"),
+        (b"1\0\n\x7f\x80\xff", "1\\x00\\x0a\\x7f\\x80\\xff", "1"),
+        (b"\xff" * 12, "\\xff" * 12, "0"),
+        (b"%s%n%d%99999", "%s%n%d%99999", "0"),
+    ]
+
+    def test_texts(self):
+        """How many are not read to their end or have no digit; of the first one what it is and what it counts as."""
+        segments, targets = typed_yard()
+        count, path = len(segments) + 2 * len(targets), self.folder / "call.sht"
+        head = f"player: note: 1 of {count} texts in {path} not read to the end or without a digit: "
+        for text, shown, counted in self.ODD_TEXTS:
+            for what, call in {
+                "end of segment 2": ([segments[0], segments[1]._replace(end=typed(text)), *segments[2:]], targets),
+                "pos of target 1": (segments, [targets[0]._replace(pos=typed(text)), *targets[1:]]),
+                f"f0 of target {len(targets)}": (segments, [*targets[:-1], targets[-1]._replace(f0=typed(text))]),
+            }.items():
+                for join in JOINS:
+                    lines = self.note(YARD[0], sheet(*call), "--join", join)[1].splitlines(True)
+                    note = f'{head}"{shown}", the {what}, counts as {counted}\n'
+                    self.assertEqual([line for line in lines if "the call is empty" not in line], [note])
+
+    def test_whole_texts(self):
+        """Nothing is said of those that are read to their end."""
+        for text in cases.READ_WHOLE:
+            call = sheet([Segment(b"pau", typed(text)), Segment(b"n", typed(text))], [Target(typed(text), typed(text))])
+            self.assertEqual(self.note(YARD[0], call, "--join=simple")[1], "", text)
+
+    def test_many_texts(self):
+        """The first one alone is named. Of a call that is refused nothing else is said."""
+        odd, plain = typed(b"x"), typed(b"1")
+        segments = [Segment(b"pau", plain), Segment(b"n", odd), Segment(b"ay", whole(1)), Segment(b"n", odd)]
+        targets = [Target(NONE, odd), Target(odd, plain), Target(real(1), odd)]
+        message = self.note(YARD[0], sheet(segments, targets), "--join=simple")[1]
+        head = f"player: note: 5 of 7 texts in {self.folder / 'call.sht'} not read to the end or without a digit: "
+        self.assertEqual(message, head + '"x", the end of segment 2, counts as 0, ..\n')
+        message = run(YARD[0], "-", "--join=simple", input=sheet(segments[:1], targets))[2].splitlines()[-1]
+        self.assertTrue(message.startswith("player: note: 3 of 5 texts in standard input not read "), message)
+        self.assertTrue(message.endswith(': "x", the f0 of target 1, counts as 0, ..'), message)
+        late = self.file("late.sht", sheet([Segment(b"pau", typed(b"9999s")), Segment(b"n", odd)]))
+        status, _, message = run(YARD[0], late)
+        self.assertEqual((status, message.count("\n")), (1, 1))
+        self.assertTrue(message.startswith("player: refused 11: "), message)
+
     def test_empty(self):
         targets = [Target(NONE, real(100)), Target(real(1), real(100))]
         pair = [Segment(b"pau", real(0.5)), Segment(b"n", real(1))]
@@ -919,13 +1125,13 @@ class Strict(InFolder):
         self.assertEqual(self.alike(*YARD, "--fold"), {0})
 
     def test_refusals(self):
-        """1 to 12 are as without, where no pair is missing."""
+        """1 to 12 and 17 are as without, where no pair is missing."""
         seen = set()
         for files in self.unfit():
             done = run(*files, "--strict")
             self.assertEqual(done, run(*files))
             seen.add(int(re.match("player: refused ([0-9]+): ", done[2])[1]))
-        self.assertEqual(seen, set(range(1, 13)))
+        self.assertEqual(seen, {*range(1, 13), 17})
 
     def number(self, *words):
         """Of a refused call."""
@@ -934,7 +1140,7 @@ class Strict(InFolder):
         return int(re.match("player: refused ([0-9]+): ", message)[1])
 
     def test_order(self):
-        """With a pair missing: after 1 to 9, before 10 to 12."""
+        """With a pair missing: after 1 to 9 and 17, before 10 to 12."""
         pair = self.file("pair.sht", sheet([Segment(b"q"), Segment(b"q")]))
         for number, what, data in cases.unfit_voices(YARD[0].read_bytes()):
             self.assertEqual(self.number(self.file("unfit.flv", data), pair, "--strict"), number, what)
@@ -942,7 +1148,7 @@ class Strict(InFolder):
         for number, what, data in [*cases.unfit_sheets(), *cases.unfit_calls()]:
             call = self.file("unfit.sht", data)
             self.assertEqual(self.number(few, call), number, what)
-            self.assertEqual(self.number(few, call, "--strict"), number if number < 10 else 16, what)
+            self.assertEqual(self.number(few, call, "--strict"), 16 if 10 <= number <= 12 else number, what)
         late = self.file("late.sht", sheet([Segment(b"q"), Segment(b"q"), Segment(b"n", cases.bits(cases.NAN))]))
         self.assertEqual(self.number(few, late, "--strict", "--join=none"), 9)
 
@@ -1003,27 +1209,36 @@ class Refusals(InFolder):
             self.refused(number, what, YARD[0], self.file("unfit.sht", data))
 
     def test_where(self):
-        """8 and 9 say where and why, as tools/formats.py does."""
+        """8, 9 and 17 say where and why, as tools/formats.py does."""
         draw = random.Random(1)
-        whole_sheet = YARD[1].read_bytes()
         sheets = [data for _, _, data in cases.unfit_sheets()]
-        for _ in range(60):
+        for whole_sheet in [YARD[1].read_bytes(), sheet(*typed_yard())] * 60:
             place = draw.randrange(len(whole_sheet))
-            changed = cases.patched(place, bytes([draw.choice([0, 3, 31, 127, 128, 255])]))(whole_sheet)
+            changed = cases.patched(place, bytes([draw.choice([0, 3, 13, 31, 127, 128, 255])]))(whole_sheet)
             sheets.append(changed[: draw.randrange(place, len(whole_sheet) + 1)])
-        seen = 0
+        seen = []
         for data in sheets:
             path = self.file("unfit.sht", data)
             message = run(YARD[0], path, "--join=none")[2]
             try:
                 read_sheet(data)
             except Refused as refusal:
-                seen += 1
+                seen.append(refusal.number)
                 self.assertTrue(message.startswith(f"player: refused {refusal.number}: {path} "), message)
                 self.assertIn(f", at byte {refusal.place}: {refusal.reason}", message)
             else:
                 self.assertNotIn("refused", message)
-        self.assertGreater(seen, 50)
+        self.assertGreater(len(seen), 100)
+        self.assertEqual(set(seen), {8, 9, 17})
+
+    def test_long_text(self):
+        """A sentence for people, then where and why."""
+        why = "has a time or pitch whose text is too long, at byte 5: a text of 13 bytes, 12 is the most"
+        call = self.file("call.sht", sheet([Segment(b"pau", typed(b"0.25 seconds.")), Segment(b"n")]))
+        for words in ((), ("--join=none",), ("--ends",), ("--strict",)):
+            self.assertEqual(run(YARD[0], call, *words), (1, b"", f"player: refused 17: {call} {why}\n"))
+        call = self.file("call.sht", sheet([Segment(b"pau", typed(b"0.25 second.")), Segment(b"n")]))
+        self.assertEqual(run(YARD[0], call)[0], 0)
 
     def test_readable_form(self):
         message = run(YARD[0], EXAMPLES / "yard.txt")[2]
@@ -1161,6 +1376,10 @@ class Memory(InFolder):
         gap = self.file("gap.sht", sheet([Segment(b"n", NONE, 2), Segment(b"z"), Segment(b"q" * 32)]))
         calls = [(YARD[0], unfit), (unfit, unfit, "--ends"), (YARD[0], "/nowhere/at-all"), ("--help",)]
         calls += [(YARD[0], gap, "--join=simple"), (YARD[0], gap, "--join=none"), (YARD[0], gap, "--strict")]
+        texts = [Segment(b"n", typed(b"1\xff" * 6)), Segment(b"ay", typed(b"1"))], [Target(typed(b""), typed(b"9" * 12))]
+        texts = sheet(*texts)
+        for data in (texts, texts[:-1], b"\1\1n\3\x0d"):
+            calls.append((YARD[0], self.file(f"{len(data)}.sht", data), "--join=simple", "--ends"))
         for words in [*calls, (*YARD, "--strict"), (*YARD, "--raw", "--gain", "30")]:
             self.assertEqual(run(*words, before=VALGRIND), run(*words), words)
 

@@ -23,8 +23,8 @@ SPEAK_BUFFERS = 8_192, 4_096, 4_096, 2_048, 4_096, 1_024
 JOINS, FILTERS = ("none", "simple", "modified"), (None, "fixed", "float")
 SETTINGS = set(itertools.product(JOINS, FILTERS, (False, True), (False, True)))
 SPEAK_SETTINGS = "simple", "fixed", False, False
-SLOPE, SHORT_BUFFER, MISSING_PAIR = 10, 13, 16
-ANSWERS = {*range(SHORT_BUFFER + 1), MISSING_PAIR}
+SLOPE, SHORT_BUFFER, MISSING_PAIR, LONG_TEXT = 10, 13, 16, 17
+ANSWERS = {*range(SHORT_BUFFER + 1), MISSING_PAIR, LONG_TEXT}
 
 
 class Call(NamedTuple):

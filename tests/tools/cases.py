@@ -1,11 +1,14 @@
-"""Voices and sheets, fit and unfit, each with the number by which it is refused; and pairs that a voice lacks."""
+"""Voices and sheets, fit and unfit, each with the number by which it is refused; texts, and what they count as; pairs
+that a voice lacks."""
 import sys
+from decimal import Decimal
+from fractions import Fraction
 from pathlib import Path
 
 REPO = Path(__file__).resolve().parent.parent.parent
 sys.path.insert(0, str(REPO / "tools"))
 import formats
-from formats import FLOAT, NONE, WHOLE, Segment, Target, f32, index_bytes, real, u32, voice_of
+from formats import FLOAT, NONE, TEXT, WHOLE, Segment, Target, f32, index_bytes, real, u32, voice_of
 from formats import section_bytes as section
 from formats import sheet_bytes as sheet
 
@@ -113,6 +116,10 @@ def bits(word):
     return FLOAT, word
 
 
+def typed(text):
+    return TEXT, text
+
+
 def unfit_sheets():
     """(number, what, bytes) of sheets that cannot be read."""
     pair = [Segment(b"pau"), Segment(b"n")]
@@ -126,12 +133,24 @@ def unfit_sheets():
     yield 8, "a name of 33 bytes", sheet([Segment(b"n" * 33)])
     yield 8, "a blank in a name", sheet([Segment(b"n n")])
     yield 8, "byte 127 in a name", sheet([Segment(b"n\x7f")])
-    yield 8, "a value of kind 3", sheet([Segment(b"n", (3, None))])
+    yield 8, "a value of kind 4", sheet([Segment(b"n", (4, None))])
+    yield 8, "a value of kind 255", sheet(pair, [Target(NONE, (255, None))])
     yield 8, "a follower above the count", sheet([Segment(b"n", NONE, 2)])
     yield 9, "a NaN", sheet([Segment(b"n", bits(NAN))])
     yield 9, "infinity", sheet(pair, [Target(bits(INFINITY))])
     yield 9, "a NaN before a follower above the count", sheet([Segment(b"n", bits(NAN), 2)])
     yield 8, "a bad name before a NaN", sheet([Segment(b"n n", bits(NAN))])
+    yield 17, "a text of 13 bytes", sheet([Segment(b"n", typed(b"0.2500000000x"))])
+    yield 17, "a text of 255 bytes for a place", sheet(pair, [Target(typed(b"5" * 255))])
+    yield 17, "a text of 13 bytes for a pitch", sheet(pair, [Target(NONE, typed(b" " * 13))])
+    yield 17, "nothing behind its length", b"\1\1n\3\x0d"
+    yield 17, "nothing behind a pitch's length", sheet(pair, [Target(NONE, NONE)])[:-1] + b"\3\xff"
+    yield 17, "a text too long before a NaN", sheet([Segment(b"n", typed(b"5" * 13), 9), Segment(b"n", bits(NAN))])
+    yield 9, "a NaN before a text too long", sheet(pair, [Target(bits(NAN), typed(b"5" * 13))])
+    yield 8, "a follower above the count before it", sheet([Segment(b"n", NONE, 9), Segment(b"n", typed(b"5" * 13))])
+    yield 8, "no length of a text", b"\1\1n\3"
+    yield 8, "a text cut short", b"\1\1n\3\x0c" + b"5" * 11
+    yield 8, "bytes left over behind a text", sheet(pair, [Target(NONE, typed(b"5"))]) + b"6"
 
 
 def unfit_calls():
@@ -141,6 +160,146 @@ def unfit_calls():
     yield 11, "a phone too late", sheet([Segment(b"pau"), Segment(b"n", whole(5000))])
     yield 11, "a period too late", sheet(pair, [Target(NONE, real(1e-4)), Target(real(1), real(1e-4))])
     yield 12, "too many periods", sheet(pair, [Target(NONE, real(60_000)), Target(real(2), real(60_000))])
+
+
+# ---- texts
+
+# The bits of the f32 that a text counts as, of which all is read, by hand.
+READ_WHOLE = {
+    b"0": 0,
+    b"-0": 0x80000000,
+    b"-.0": 0x80000000,
+    b"-0.0": 0x80000000,
+    b"+0": 0,
+    b"000000000000": 0,
+    b"-.0000000000": 0x80000000,
+    b"0.25": 0x3E800000,
+    b"-0.25": 0xBE800000,
+    b".5": 0x3F000000,
+    b"+.5": 0x3F000000,
+    b"5.": 0x40A00000,
+    b"-5.": 0xC0A00000,
+    b"0000000000.5": 0x3F000000,
+    b"120": 0x42F00000,
+    b"0.1": 0x3DCCCCCD,
+    b"16777217": 0x4B800000,  # ties go to the even one
+    b"16777219": 0x4B800002,
+    b"-16777217": 0xCB800000,
+    b"16777217.": 0x4B800000,
+    b"16777217.001": 0x4B800001,
+    b"16777218.999": 0x4B800001,
+    b"8388608.5": 0x4B000000,
+    b"8388609.5": 0x4B000002,
+    b"4194304.25": 0x4A800000,
+    b"2097152.125": 0x4A000000,
+    b"1048576.0625": 0x49800000,
+    b"1048576.1875": 0x49800002,
+    b"524288.03125": 0x49000000,
+    b"524288.03126": 0x49000001,
+    b"549755846656": 0x53000000,  # 2^39 and half of what the next one is off
+    b"549755846657": 0x53000001,
+    b"1.0000000596": 0x3F800000,  # just below the middle, and just above
+    b"1.0000000597": 0x3F800001,
+    b"999999999999": 0x5368D4A5,
+    b"-99999999999": 0xD1BA43B7,
+    b".00000000001": 0x2D2FEBFF,
+    b"-.0000000001": 0xAEDBE6FF,
+}
+# The same, where some is ignored; without a digit a text is 0.
+READ_IN_PART = {
+    b"": 0,
+    b"-": 0,
+    b"+": 0,
+    b".": 0,
+    b"-.": 0,
+    b"+-3": 0,
+    b"--3": 0,
+    b"-.-3": 0,
+    b" 2": 0,
+    b"\t2": 0,
+    b"\x002": 0,
+    b"\xff2": 0,
+    b"abc": 0,
+    b"inf": 0,
+    b"nan": 0,
+    b"e5": 0,
+    b"..5": 0,
+    b"$12": 0,
+    b"-x0": 0,
+    b"0,25": 0,
+    b"0x10": 0,
+    b"-0,25": 0x80000000,
+    b"-0-1": 0x80000000,
+    b"1.5s": 0x3FC00000,
+    b"1.5 ": 0x3FC00000,
+    b"1.5\n": 0x3FC00000,
+    b"1.5\x00.5": 0x3FC00000,
+    b"1.5.5": 0x3FC00000,
+    b"1..5": 0x3F800000,
+    b"1-5": 0x3F800000,
+    b"1+5": 0x3F800000,
+    b"1e3": 0x3F800000,
+    b"1E3": 0x3F800000,
+    b"1e-3": 0x3F800000,
+    b"1_000": 0x3F800000,
+    b"1\xc2\xbd": 0x3F800000,
+    b"2\xb2": 0x40000000,
+    b"95 Hz": 0x42BE0000,
+    b"-7/8": 0xC0E00000,
+    b"12:30": 0x41400000,
+    "٣".encode(): 0,  # a digit, but none of ASCII
+}
+TEXTS = READ_WHOLE | READ_IN_PART
+
+
+def decimal_of(text):
+    """Whether a minus counts, and the number behind it as a fraction, as the Rust's parse_leading_f32 reads a text."""
+    digits, seen_digit, power = 0, False, None
+    for place, byte in enumerate(text):
+        if ord("0") <= byte <= ord("9"):
+            digits, seen_digit = digits * 10 + byte - ord("0"), True
+            power = power if power is None else power + 1
+        elif byte == ord(".") and power is None:
+            power = 0
+        elif place > 0 or byte not in b"+-":
+            break
+    return seen_digit and text.startswith(b"-"), Fraction(digits, 10 ** (power or 0))
+
+
+def nearest_bits(text):
+    """The bits of the f32 that a text counts as, by whole numbers alone."""
+    minus, number = decimal_of(text)
+    if number == 0:
+        return minus << 31
+    power = 0
+    while number >= Fraction(2) ** (power + 24):
+        power += 1
+    while number < Fraction(2) ** (power + 23):
+        power -= 1
+    count = round(number / Fraction(2) ** power)  # from 2^23 to 2^24; ties go to the even one
+    return (minus << 31) + (power + 149 << 23) + count
+
+
+def ties(draw, count):
+    """Texts of up to 12 bytes in the middle between two f32s, or near it."""
+    found = []
+    while len(found) < count:
+        middle = draw.randrange(2**24 + 1, 2**25, 2) * Decimal(2) ** draw.randrange(-5, 15)
+        text = draw.choice(["", "", "-", "+"]) + f"{middle:f}"
+        last = (int(text[-1]) + draw.choice([0, 0, 1, 9])) % 10
+        if len(text) <= formats.LONGEST_TEXT:
+            found.append(f"{text[:-1]}{last}".encode())
+    return found
+
+
+def random_text(draw):
+    """A number as it may be typed, or any bytes."""
+    kind = draw.randrange(4)
+    if kind == 0:
+        return draw.randbytes(draw.randrange(13))
+    letters = b"0123456789" * (1, 3, 6)[kind - 1] + b"..+-" + (b" ,eEx\0\xff\"\\#" if kind == 1 else b"")
+    text = bytes(draw.choices(letters, k=draw.randrange(13)))
+    return text if kind < 3 else text.replace(b"+", b"").replace(b"-", b"")
 
 
 # ---- pairs

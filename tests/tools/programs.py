@@ -4,7 +4,7 @@ import tempfile
 from pathlib import Path
 
 import cases
-from cases import EXAMPLES, Segment, Target, real, section, sheet
+from cases import EXAMPLES, Segment, Target, real, section, sheet, typed
 from formats import Header, voice_file
 
 EXAMPLE = (EXAMPLES / "example.flv").read_bytes(), (EXAMPLES / "example.sht").read_bytes()
@@ -72,13 +72,13 @@ class Cases:
             self.assertEqual(self.spoken(what, data, EXAMPLE[1])[:2], (8000, 12), what)
 
     def test_sheets(self):
-        """8 and 9, and what is longer than its limit."""
+        """8, 9 and 17, and what is longer than its limit."""
         seen = set()
         for number, what, data in cases.unfit_sheets():
             number = 13 if len(data) > SHEET_LIMIT else number
             seen.add(number)
             self.refused(number, what, EXAMPLE[0], data)
-        self.assertEqual(seen, {8, 9, 13})
+        self.assertEqual(seen, {8, 9, 13, 17})
 
     def test_only_marks(self):
         """Ends and targets that another join would refuse play no part."""
@@ -89,6 +89,13 @@ class Cases:
         """Ends between two samples play no part either."""
         phones = [Segment(name, real(place / 8000)) for name, place in ((b"pau", 1.5), (b"aa", 4.5))]
         self.assertEqual(self.run_on(EXAMPLE[0], sheet(phones)), self.DOCUMENT)
+
+    def test_texts(self):
+        """Ends and targets may be typed, and play no part either."""
+        texts = [typed(text) for text in (b"", b"0.25", b"123456789012", b"-.x", bytes(12))]
+        for text in texts:
+            call = sheet([Segment(b"pau", text), Segment(b"aa", text)], [Target(text, text)] * 2)
+            self.assertEqual(self.run_on(EXAMPLE[0], call), self.DOCUMENT, text)
 
     def test_late_mark(self):
         """11: a pair has 16,384 samples, and 1,024 of them are one too many."""

@@ -17,7 +17,7 @@ from pathlib import Path
 from xml.etree import ElementTree
 
 import cases
-from cases import EXAMPLES, NONE, REPO, Segment, Target, bits, formats, sheet, whole
+from cases import EXAMPLES, NONE, REPO, Segment, Target, bits, formats, sheet, typed, whole
 
 DOCUMENT_TEXT = """\
 # segment NAME END FOLLOWER
@@ -40,6 +40,23 @@ target int 6        int 16777217
 target int 7        -            # 16777216 Hz goes on
 target int 8        float 0.1
 target float 0.33333334 -        # 0.1 Hz goes on
+"""
+TYPED_TEXT = """\
+# segment NAME END FOLLOWER
+segment pau  "0.25"       2
+segment "    "0,25"       -
+        # END counts as 0
+segment n    ""           -
+        # END counts as 0
+segment \\\\"x "-"          3
+        # END counts as 0
+# target POS F0
+target "0.1"        "120"
+target " 2"         "95 Hz"      # POS counts as 0; F0 counts as 95
+target "1.50s"      -            # POS counts as 1.50; 95 Hz goes on
+target -            "\\"\\\\\\x00\\xff#" # F0 counts as 0
+target int 3        -            # 0 Hz goes on
+target "+.5"        float 0.5
 """
 
 
@@ -95,11 +112,13 @@ FLOATS = EDGES + [word | 0x80000000 for word in EDGES]
 
 
 def random_value(draw):
-    kind = draw.randrange(4)
+    kind = draw.randrange(5)
     if kind == 0:
         return whole(draw.choice([0, -1, 2**31 - 1, -(2**31), draw.randrange(-1000, 1000)]))
     if kind == 1:
         return NONE
+    if kind == 4:
+        return typed(cases.random_text(draw))
     word = draw.choice(FLOATS) if kind == 2 else draw.getrandbits(32)
     return bits(word if finite(word) else word & 0x807FFFFF)
 
@@ -126,6 +145,9 @@ PITCHES = [
     ([whole(-3), NONE], [-3, -3]),
     ([whole(16777217), NONE], [16777216, 16777216]),  # the nearest f32 goes on
     ([bits(1), NONE], [2**-149, 2**-149]),
+    ([typed(b"95"), NONE, typed(b"80.5 Hz"), NONE], [95, 95, 80.5, 80.5]),
+    ([whole(95), typed(b""), NONE, typed(b"x"), NONE], [95, 0, 0, 0, 0]),  # without a digit it is a written 0
+    ([typed(b"16777217"), NONE], [16777216, 16777216]),
 ]
 
 
@@ -178,6 +200,40 @@ class Formats(unittest.TestCase):
                 self.assertEqual(formats.f0s_counted([Target(pos, f0) for f0 in f0s]), counted, f0s)
         minus = formats.f0s_counted([Target(NONE, bits(0x80000000)), Target()])
         self.assertEqual([math.copysign(1, f0) for f0 in minus], [-1, -1])
+
+    def assert_counts(self, text, word):
+        """By its bits, so that minus zero is told from zero."""
+        self.assertEqual(struct.unpack("<I", struct.pack("<f", formats.number_of(typed(text))))[0], word, text)
+
+    def test_texts(self):
+        """The f32 nearest to the exact decimal, ties to the even one, of what counts; all twelve bytes of any kind."""
+        for text, word in cases.TEXTS.items():
+            self.assert_counts(text, word)
+            self.assertEqual(cases.nearest_bits(text), word, text)
+            self.assertEqual(formats.is_odd(typed(text)), text in cases.READ_IN_PART, text)
+        draw = random.Random(9)
+        texts = cases.ties(draw, 3000) + [cases.random_text(draw) for _ in range(6000)]
+        for text in texts + [bytes([byte]) + more for byte in range(256) for more in (b"", b"5", b".5", b"0")]:
+            self.assert_counts(text, cases.nearest_bits(text))
+        self.assertFalse(any(map(formats.is_odd, (NONE, whole(5), formats.real(0.5)))))
+
+    def test_texts_written(self):
+        """A length byte and the bytes, of a segment's end, a target's place and its pitch."""
+        segments, targets = [Segment(b"n", typed(b"0.25"), 1)], [Target(typed(b""), typed(b"\0\xff#"))]
+        data = b"\1\1n\3\x040.25\1\1\3\0\3\3\0\xff#"
+        self.assertEqual(sheet(segments, targets), data)
+        self.assertEqual(formats.read_sheet(data), (segments, targets))
+        longest = sheet([Segment(b"n", typed(b"5" * 12))])
+        self.assertEqual(formats.read_sheet(longest)[0][0].end, typed(b"5" * 12))
+
+    def test_text_too_long(self):
+        """At the byte where the value begins, whatever follows its length."""
+        for tail in (b"", b"5" * 13, b"\0" * 300):
+            for length in (13, 128, 255):
+                with self.assertRaises(formats.Refused) as caught:
+                    formats.read_sheet(b"\1\1n\3" + bytes([length]) + tail)
+                reason = f"refused 17 at byte 3: a text of {length} bytes, 12 is the most"
+                self.assertEqual((str(caught.exception), caught.exception.number), (reason, 17))
 
 
 class Sheet(unittest.TestCase):
@@ -240,8 +296,9 @@ class Sheet(unittest.TestCase):
         self.assertEqual(encode(bare), (0, data, ""))
         for f0s, counted in PITCHES:
             lines = decode(sheet([], [Target(NONE, f0) for f0 in f0s]))[1].decode().splitlines()[2:]
-            told = [formats.real(float(line.split("#")[1].split()[0])) for line in lines if "#" in line]
-            self.assertEqual(list(map(formats.number_of, told)), [number for f0, number in zip(f0s, counted) if f0 == NONE])
+            told = re.findall(r"# (\S+) Hz (?:goes on|to begin with)$", "\n".join(lines), re.MULTILINE)
+            told = [formats.number_of(formats.real(float(pitch))) for pitch in told]
+            self.assertEqual(told, [number for f0, number in zip(f0s, counted) if f0 == NONE])
 
     def test_comments(self):
         """Behind a target: from a word that begins with # on. A segment has none, as its name may begin so."""
@@ -254,19 +311,101 @@ class Sheet(unittest.TestCase):
             "target int 1": "the f0 (- where the last pitch goes on) is missing",
             "target # - -": "the pos is missing",
             "target int # 5 -": "the pos is missing",
-            "target - -# x": "-# is no value: int N, float X or -",
+            "target - -# x": '-# is no value: int N, float X, "TEXT" or -',
             "target - - x # y": "x is one word too many",
             "segment n - - # x": "# is one word too many; a comment stands in a line of its own, or behind a target",
             "segment n - # x": "# is no follower: a whole number from 0 to 4096",
-            "segment n # x": "# is no value: int N, float X or -",
+            "segment n # x": '# is no value: int N, float X, "TEXT" or -',
         }.items():
             status, data, message = encode(line)
             self.assertEqual((status, data), (1, b""), line)
             self.assertIn(f": line 1: {why}\n", message)
 
+    def test_texts(self):
+        """In quotes; what one counts as that is not read to its end or has no digit stands in a comment."""
+        segments = [Segment(b"pau", typed(b"0.25"), 2), Segment(b'"', typed(b"0,25")), Segment(b"n", typed(b""))]
+        segments.append(Segment(b'\\"x', typed(b"-"), 3))
+        targets = [Target(typed(b"0.1"), typed(b"120")), Target(typed(b" 2"), typed(b"95 Hz")), Target(typed(b"1.50s"))]
+        targets += [Target(NONE, typed(b'"\\\0\xff#')), Target(whole(3)), Target(typed(b"+.5"), formats.real(0.5))]
+        data = sheet(segments, targets)
+        self.assertEqual(decode(data), (0, TYPED_TEXT.encode(), ""))
+        self.assertEqual(encode(TYPED_TEXT), (0, data, ""))
+        self.assertEqual(encode(re.sub(" *# [A-Z0-9]+ (counts|Hz) .*", "", TYPED_TEXT)), (0, data, ""))
+
+    def test_any_bytes(self):
+        """Each byte alone and among others, and every length, there and back."""
+        texts = [bytes([byte]) for byte in range(256)] + [b"1" + bytes([byte, byte]) + b"2" for byte in range(256)]
+        texts += [b"\\" * length for length in range(13)] + [b'"' * length for length in range(13)]
+        texts += [b'\\"', b'"\\', b"\\x41", b'" # "', b"# ", b" - ", b"\r\n", b"\xc2\xa0", b"int 5", b'"5"', b" " * 12]
+        targets = [Target(typed(pos), typed(f0)) for pos in texts[-7:] for f0 in texts]
+        data = sheet([Segment(b'"', typed(text)) for text in texts], targets)
+        status, text, message = decode(data)
+        self.assertEqual((status, message), (0, ""))
+        self.assertTrue(all(32 <= byte <= 126 or byte == 10 for byte in text))
+        self.assertEqual(encode(text), (0, data, ""))
+
+    def test_quotes(self):
+        """Where a value is expected a quote begins a text, and nowhere else."""
+        for line, value in {
+            'target "0.25" -': b"0.25",
+            ' target   "0.25"\t-\r': b"0.25",
+            'target "" -': b"",
+            'target " 0.25 " - # a "comment': b" 0.25 ",
+            'target "# 5" -': b"# 5",
+            'target "- -" - # "': b"- -",
+            'target "a\\"b" -': b'a"b',
+            'target "\\\\" -': b"\\",
+            'target "\\\\\\"" -': b'\\"',
+            'target "\\x00\\xfF\\x41" -': b"\0\xffA",
+            'target "123456789012" -': b"123456789012",
+            'target "\\xe2\\x82\\xac\\x30\\x30\\x30\\x30\\x30\\x30\\x30\\x30\\x30" -': "€".encode() + b"0" * 9,
+        }.items():
+            self.assertEqual(encode(line), (0, sheet([], [Target(typed(value))]), ""), line)
+        names = [Segment(b'"a"', typed(b"1")), Segment(b'"', NONE, 2), Segment(b'a"', whole(5))]
+        text = 'segment "a" "1" -\nsegment " - 2\nsegment a" int 5 -\n'
+        self.assertEqual(encode(text), (0, sheet(names), ""))
+
+    def test_unfit_quotes(self):
+        """A line of reason each."""
+        ascii_alone = "has more than printing ASCII and blanks: other bytes are written \\xNN"
+        too_long = "is a text of 13 bytes, 12 is the most (it would be refused 17)"
+        for line, why in {
+            'target "0.25 -': '"0.25 - has no closing quote',
+            'target "0.25\\" -': '"0.25\\" - has no closing quote',
+            'target - "': '" has no closing quote',
+            'target "0.25" "5': '"5 has no closing quote',
+            'target "0.25"x -': '"0.25"x -: no blank behind the closing quote',
+            'target "0.25"# -': '"0.25"# -: no blank behind the closing quote',
+            'target "1""2"': '"1""2": no blank behind the closing quote',
+            'target "\\n" -': '"\\n" has an escape other than \\", \\\\ and \\xNN',
+            'target "\\x4" -': '"\\x4" has an escape other than \\", \\\\ and \\xNN',
+            'target "\\xg0" -': '"\\xg0" has an escape other than \\", \\\\ and \\xNN',
+            'target "\\X41" -': '"\\X41" has an escape other than \\", \\\\ and \\xNN',
+            'target "\u00e9" -': f"'\"\\xe9\"' {ascii_alone}",
+            'target "1\t" -': f"'\"1\\t\"' {ascii_alone}",
+            'target "\x7f" -': f"'\"\\x7f\"' {ascii_alone}",
+            'target "\x1b[31m" -': f"'\"\\x1b[31m\"' {ascii_alone}",
+            'target "1234567890123" -': f'"1234567890123" {too_long}',
+            'target - "             "': f'"             " {too_long}',
+            'target "0.5"': "the f0 (- where the last pitch goes on) is missing",
+            'target "0.5" #"5"': "the f0 (- where the last pitch goes on) is missing",
+            'target "0.5" "5" "6"': '"6" is one word too many',
+            'target float "5" -': '"5" is no float: a decimal, or 0x and eight hexadecimal digits',
+            "target '0.5' -": "'0.5' is no value: int N, float X, \"TEXT\" or -",
+            "target 0.5 -": '0.5 is no value: int N, float X, "TEXT" or -',
+            'segment n "5"': "the follower is missing",
+            'segment n "5" "1"': '"1" is no follower: a whole number from 0 to 4096',
+            'segment n "5" - # x': "# is one word too many; a comment stands in a line of its own, or behind a target",
+        }.items():
+            status, data, message = encode(f"# first\n{line}\n")
+            self.assertEqual((status, data), (1, b""), line)
+            self.assertTrue(message.endswith(f": line 2: {why}\n"), message)
+
     def test_help(self):
         status, text, _ = run("sheet", "--help")
         self.assertEqual(status, 0)
+        self.assertIn('  "0.25"             a text of up to 12 bytes, as it was typed: a sign in front, ', text)
+        self.assertIn('but \\" for a quote, \\\\ for a backslash and\n\\xNN, two', text)
         self.assertIn("absent: an END or POS counts as 0; an F0 goes on with the pitch counted for the target", text)
 
     def test_streams(self):
@@ -276,10 +415,13 @@ class Sheet(unittest.TestCase):
         self.assertEqual(run_alone("sheet", "encode", "-", "-", given=b"what\n")[:2], (1, b""))
 
     def test_unfit_sheets(self):
+        seen = set()
         for number, what, data in cases.unfit_sheets():
             status, text, message = decode(data)
             self.assertEqual((status, text), (1, b""), what)
             self.assertIn(f"refused {number} ", message, what)
+            seen.add(number)
+        self.assertEqual(seen, {8, 9, 17})
 
     def test_most(self):
         most = sheet([Segment(b"n", NONE, 4096)] * 4096, [Target()] * 4096)
@@ -596,6 +738,18 @@ class Draw(unittest.TestCase):
             whole_text = ElementTree.tostring(pictures[1], "unicode")
             self.assertFalse("hollow" in whole_text or "goes on" in whole_text)
 
+    def test_texts(self):
+        """The picture is that of the floats: a text is a written pitch, without a digit 0 Hz."""
+        ends, places, f0s = (b"0.25", b"0.75s", b"1"), (b"0", b".5", b"1.0e9"), (b"95.5", b"95,5 Hz", b"none")
+        pictures = []
+        for value in (typed, lambda text: bits(cases.nearest_bits(text))):
+            phones = [Segment(name, value(end)) for name, end in zip((b"pau", b"n", b"pau"), ends)]
+            targets = [Target(value(place), value(f0)) for place, f0 in zip(places, f0s)]
+            pictures.append(DRAW.drawn(DRAW.Call((phones, targets), spoken([100, -100] * 4000)), 0, 1, 960, 0.3))
+        self.assertEqual(*pictures)
+        kinds = [part.get("class") for part in ElementTree.fromstring(pictures[0])]
+        self.assertEqual((kinds.count("dot"), kinds.count("hollow"), kinds.count("box")), (3, 0, 3))
+
     def test_pitch_from_the_beginning(self):
         """Where the first target has none, the line comes level from the beginning of the call."""
         for f0, lines in ((NONE, 1), (whole(120), 0)):
@@ -775,7 +929,7 @@ class Papers(unittest.TestCase):
         found = re.findall(r"^    \$ (.*)\n((?:    [^$\n].*\n)+)", text, re.MULTILINE)
         found = [(command, printed.replace("    ", "", 1).replace("\n    ", "\n")) for command, printed in found]
         found = [example for example in found if not example[0].startswith("player ")]
-        self.assertEqual(len(found), 3)
+        self.assertEqual(len(found), 4)
         for command, printed in found:
             done = subprocess.run(command, shell=True, cwd=REPO, stdout=subprocess.PIPE, check=False)
             self.assertEqual(done.stdout.decode(), printed, command)

@@ -22,7 +22,7 @@ use Rattle.c_state.specs.State.{stateLength, bytesOfState}
 abbrev pub shortReport : ℕ → Option Refusal
 shortReport n = pick (leb reportLength n) none (some ShortBuffer)
 
--- 1 to 12 and 16 as the call has them, then 13 for a report of n bytes
+-- 1 to 12, 16 and 17 as the call has them, then 13 for a report of n bytes
 unfoldable pub refusalOfNeed : List ℕ → List ℕ → Settings → ℕ → Option Refusal
 refusalOfNeed file sheet o n = orNext (checkRefusal file sheet o) (shortReport n)
 
@@ -42,7 +42,7 @@ abbrev pub handed : List ℕ → List ℕ → List ℕ → List ℕ → List ℕ
 handed index marks sizes rows excitation decoded state summary =
     record { buffers = lent index marks sizes rows excitation decoded; state = state; summary = summary }
 
--- 1 to 13 and 16 as the call has them, then 13 for the state and the summary
+-- 1 to 13, 16 and 17 as the call has them, then 13 for the state and the summary
 unfoldable pub refusalOfPlan : List ℕ → List ℕ → Settings → Handed → Option Refusal
 refusalOfPlan file sheet o h =
     orNext (callRefusal file sheet o (h .buffers))

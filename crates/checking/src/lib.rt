@@ -298,7 +298,7 @@ fn check_marks(
     check_held(file, index, sheet, by, settings)
 }
 
-// Checks 8 to 12 and 16, of an open voice.
+// Checks 8 to 12, 16 and 17, of an open voice.
 fn check_sheet(
     file: &[u8],
     d: DiphoneVoice,
@@ -315,7 +315,7 @@ fn check_sheet(
     }
 }
 
-// Checks 1 to 12 and 16, of any two files, with room for names that are looked up in a lent buffer.
+// Checks 1 to 12, 16 and 17, of any two files, with room for names that are looked up in a lent buffer.
 pub fn check_in(file: &[u8], sheet: &[u8], settings: Settings, index: &mut [u8]) -> Checked
     requires { ⌜ 8 ≤ length (now index) ⌝ }
     ensures { λ r. ⌜ r ≡ checkedOf (now (file .entry)) (now (sheet .entry)) settings ⌝ }
@@ -349,7 +349,7 @@ fn check_bare(file: &[u8], sheet: &[u8], settings: Settings) -> Checked
     check_in(file, sheet, settings, &mut index)
 }
 
-// Checks 1 to 12 and 16, of any two files.
+// Checks 1 to 12, 16 and 17, of any two files.
 pub fn check(file: &[u8], sheet: &[u8], settings: Settings) -> Checked
     ensures { λ r. ⌜ r ≡ checkedOf (now (file .entry)) (now (sheet .entry)) settings ⌝ }
 {

@@ -78,11 +78,11 @@ module _ (q n : ℕ) where
       goes-down (rw (mod-eq-of-lt l) h) ∙ div-eq-of-lt l
 
 -- ---- the pattern of r * 2 ^ k of binary32's smallest values
-size-over : (n j : ℕ) → 2 ^ j ≤ n → j < size n
+pub size-over : (n j : ℕ) → 2 ^ j ≤ n → j < size n
 size-over n j h = lt-of-not-le (λ (g : size n ≤ j). not-le-of-lt (lt-of-lt-of-le (size-lt n) (pow-mono g)) h)
 
 -- how many digits are dropped of a number of z digits
-dropped : (z k : ℕ) → z ≤ 24 + k → (0 < k → 23 + k < z) → z - 24 ≡ k
+pub dropped : (z k : ℕ) → z ≤ 24 + k → (0 < k → 23 + k < z) → z - 24 ≡ k
 dropped z zero h g = omega arith
 dropped z (suc k) h g = let p : 23 + suc k < z = g (zero-lt-suc k) in omega arith
 
@@ -99,7 +99,7 @@ weighs-eq k = ap (weight binary32) (halved (2 ^ k) (2 ^ suc k) (pow-suc 2 k)) �
     halved : (a b : ℕ) → b ≡ a * 2 → 2 ^ 24 * a ≡ 2 ^ 23 * b
     halved a b e = omega arith
 
-weighs : (r k : ℕ) → r ≤ 2 ^ 24 → (0 < k → 2 ^ 23 ≤ r) → weight binary32 (r * 2 ^ k) ≡ k * 2 ^ 23 + r
+pub weighs : (r k : ℕ) → r ≤ 2 ^ 24 → (0 < k → 2 ^ 23 ≤ r) → weight binary32 (r * 2 ^ k) ≡ k * 2 ^ 23 + r
 weighs r k h g = elim (eq-or-lt-of-le h) [ inl e ↦ rw e (weighs-eq k) | inr l ↦ weighs-lt r k l g ]
 
 -- r * 2 ^ k is below 2 ^ 277 of them, where the result is finite, or not

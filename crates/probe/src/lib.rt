@@ -6,13 +6,14 @@ ghost use Prim.Native.Nat.{_*_, _/_, _%_, _^_};
 ghost use lib.Dec.{leb};
 ghost use lib.IntN.{pos};
 ghost use lib.Ieee.{binary32, ofBits, toBits, ofInt, toSigned, toUnsigned};
-ghost use lib.ListN.{length};
+ghost use lib.ListN.{length, take};
 ghost use lib.Signed.{quotZ};
 ghost use Rattle.adpcm.specs.Decoder.{decoded};
 ghost use Rattle.base.specs.Buffers.{over, flat};
 ghost use Rattle.base.specs.Bytes.{bytesOf};
 ghost use Rattle.base.specs.Choice.{pick};
 ghost use Rattle.base.specs.Words.{low, signed32};
+ghost use Rattle.decimal.specs.Decimal.{textValue};
 ghost use Rattle.float.specs.Casts.{narrow};
 ghost use Rattle.float.specs.Distance.{nearer};
 ghost use Rattle.float.specs.Nearest.{toNearest};
@@ -97,6 +98,14 @@ pub extern "C" fn probe_is_nearer(p: f32, a: f32, b: f32) -> bool
     ensures { λ r. ⌜ r ≡ nearer p a b ⌝ }
 {
     float::is_nearer(p, a, b)
+}
+
+// Rust's `parse_leading_f32` of the first 12 bytes.
+#[no_mangle]
+pub extern "C" fn probe_text_to_f32(text: &[u8]) -> f32
+    ensures { λ r. ⌜ r ≡ textValue (take 12 (now (text .entry))) ⌝ }
+{
+    decimal::text_to_f32(text)
 }
 
 // Rust's `a.wrapping_mul(b)`.

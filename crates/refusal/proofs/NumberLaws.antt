@@ -2,7 +2,7 @@
 use Prim.Native.Nat.{_≤_}
 use native.Mathlib.Omega.{arith}
 use Rattle.refusal.specs.declared.Refusal.{Refusal}
-use Rattle.refusal.specs.declared.Refusal.the-variants.{BadMagic, SectionCut, NotDiphone, MissingSection, BadHeader, BadTables, BadIndex, BadSheet, NotFinite, BadSlope, PastLimit, TooManyMarks, ShortBuffer, ShortSlice, BadState, MissingPair}
+use Rattle.refusal.specs.declared.Refusal.the-variants.{BadMagic, SectionCut, NotDiphone, MissingSection, BadHeader, BadTables, BadIndex, BadSheet, NotFinite, BadSlope, PastLimit, TooManyMarks, ShortBuffer, ShortSlice, BadState, MissingPair, LongText}
 use Rattle.refusal.specs.Number.{numberOf}
 
 range : (r : Refusal) → (1 ≤ numberOf r) × (numberOf r ≤ 22)
@@ -22,6 +22,7 @@ range ShortBuffer = (omega arith, omega arith)
 range ShortSlice = (omega arith, omega arith)
 range BadState = (omega arith, omega arith)
 range MissingPair = (omega arith, omega arith)
+range LongText = (omega arith, omega arith)
 
 pub number-some : (r : Refusal) → 1 ≤ numberOf r
 number-some r = range r .0

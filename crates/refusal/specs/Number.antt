@@ -2,7 +2,7 @@
 use mathlib.Core.Option.{Option, none, some}
 use Prim.Native.Nat.{ℕ}
 use Rattle.refusal.specs.declared.Refusal.{Refusal}
-use Rattle.refusal.specs.declared.Refusal.the-variants.{BadMagic, SectionCut, NotDiphone, MissingSection, BadHeader, BadTables, BadIndex, BadSheet, NotFinite, BadSlope, PastLimit, TooManyMarks, ShortBuffer, ShortSlice, BadState, MissingPair}
+use Rattle.refusal.specs.declared.Refusal.the-variants.{BadMagic, SectionCut, NotDiphone, MissingSection, BadHeader, BadTables, BadIndex, BadSheet, NotFinite, BadSlope, PastLimit, TooManyMarks, ShortBuffer, ShortSlice, BadState, MissingPair, LongText}
 
 abbrev pub numberOf : Refusal → ℕ
 -- first 8 bytes not `FLRSDAT` and 0x01
@@ -37,6 +37,8 @@ numberOf ShortSlice = 14
 numberOf BadState = 15
 -- 'some pair finds no name that it tries before the sorted first entry', in a strict call (document 02, A1)
 numberOf MissingPair = 16
+-- 'a length byte above 12, whatever follows it' (document 02, A4)
+numberOf LongText = 17
 
 -- 0, or the number
 abbrev pub answerOf : Option Refusal → ℕ

@@ -20,6 +20,7 @@ pub enum Refusal {
     ShortSlice,
     BadState,
     MissingPair,
+    LongText,
 }
 
 // The number of a cause.
@@ -43,5 +44,6 @@ pub fn number(cause: Refusal) -> u32
         Refusal::ShortSlice => 14,
         Refusal::BadState => 15,
         Refusal::MissingPair => 16,
+        Refusal::LongText => 17,
     }
 }

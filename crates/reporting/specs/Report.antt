@@ -61,7 +61,7 @@ reportBytes v s o = flat lineBytes (reportOf v s o)
 abbrev pub shortLines : ℕ → ℕ → Option Refusal
 shortLines periods n = pick (leb (16 * periods) n) none (some ShortBuffer)
 
--- 1 to 12 and 16 as the call has them, then 13 for a buffer of n bytes
+-- 1 to 12, 16 and 17 as the call has them, then 13 for a buffer of n bytes
 unfoldable pub refusalOfReport : List ℕ → List ℕ → Settings → ℕ → Option Refusal
 refusalOfReport file sheet o n = orNext (checkRefusal file sheet o) (shortLines (length (reportOf (voiceOf file) (sheetOf sheet) o)) n)
 

@@ -17,7 +17,7 @@ use Rattle.sheet.specs.declared.GotNumber.the-variants.{Refused, Read}
 use Rattle.sheet.proofs.AnswerLaws.{from-place, refused, read, same-reading, stops, goes-on, read-within}
 
 -- a step of the definition, with its test given
-abbrev turn : Bool → ℕ → Bool → ℕ → List ℕ → Got ℕ
+abbrev pub turn : Bool → ℕ → Bool → ℕ → List ℕ → Got ℕ
 turn t n first b bs =
     elim t [
       | true ↦ malformedIf (not first && eqb b 0) (gets b bs)

@@ -10,9 +10,10 @@ use lib.Ieee.{Float}
 use lib.ListN.{length, take, drop, length-drop}
 use lib.Seq.{drop-drop}
 use Rattle.base.specs.Choice.{pick}
+use Rattle.decimal.specs.Decimal.{textValue}
 use Rattle.refusal.specs.declared.Refusal.{Refusal}
-use Rattle.refusal.specs.declared.Refusal.the-variants.{NotFinite}
-use Rattle.sheet.specs.Sheet.{Got, fails, gets, _andThen_, malformedIf, groups, number, count, printable, name, isFinite, finite, valueOf, value, segment, repeated}
+use Rattle.refusal.specs.declared.Refusal.the-variants.{NotFinite, LongText}
+use Rattle.sheet.specs.Sheet.{Got, fails, gets, _andThen_, malformedIf, groups, number, count, printable, name, isFinite, finite, text, valueOf, value, segment, repeated}
 use Rattle.sheet.specs.declared.Value.the-variants.{Float as FloatValue}
 
 pub record Suffix (r bs : List ℕ) : Type 0 where
@@ -106,12 +107,22 @@ finite-leaves x {r} {bs} s = by (isFinite x)
     by true = end s
     by false = nothing
 
+text-leaves : (bs : List ℕ) → Leaves bs (text bs)
+unfolding text
+text-leaves [] = nothing
+text-leaves (n ∷ bs) = by (ltb 12 n)
+  where
+    by : (t : Bool) → Leaves (n ∷ bs) (pick t (fails LongText) (malformedIf (ltb (length bs) n) (gets (FloatValue (textValue (take n bs))) (drop n bs))))
+    by true = nothing
+    by false = leaves-if (ltb (length bs) n) (λ e. end (trans (cut n bs (ltb-false (length bs) n e)) (one n bs)))
+
 kind-leaves : (k : ℕ) (r : List ℕ) → Leaves r (valueOf k r)
 unfolding valueOf
 kind-leaves zero r = leaves-if (ltb (length r) 4) (λ e. end (four r e))
 kind-leaves (suc zero) r = leaves-if (ltb (length r) 4) (λ e. finite-leaves _ (four r e))
 kind-leaves (suc (suc zero)) r = end (all r)
-kind-leaves (suc (suc (suc k))) r = nothing
+kind-leaves (suc (suc (suc zero))) r = text-leaves r
+kind-leaves (suc (suc (suc (suc k)))) r = nothing
 
 value-leaves : (bs : List ℕ) → Leaves bs (value bs)
 unfolding value

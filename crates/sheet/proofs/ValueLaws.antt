@@ -3,24 +3,25 @@ use mathlib.Core.Path.{_≡_, refl, sym, ap, _∙_}
 use mathlib.Core.Bool.{Bool, true, false, cond}
 use mathlib.Core.List.{List}
 use Prim.Native.Nat.{ℕ, zero, suc, _+_, _-_, _/_, _%_, _≤_, _<_}
-use native.Mathlib.Nat.{add-zero}
+use native.Mathlib.Nat.{add-zero, add-sub-cancel-left}
 use native.Mathlib.Omega.{arith}
 use borrow.Author.Tests.{ne-eqb, lt-ltb, le-ltb}
 use lib.Dec.{ltb, eqb, leb}
-use lib.ListN.{length, drop, getD, length-drop, drop-of-length-le}
-use lib.Seq.{drop-drop}
+use lib.ListN.{length, take, drop, getD, length-drop, drop-of-length-le}
+use lib.Seq.{drop-drop, length-take-le, take-all}
 use lib.Ieee.{Float, nan, inf, binary32, prec, hid, top, odd, ofFields, ofBits}
 use Rattle.base.specs.Choice.{pick}
 use Rattle.base.specs.Bytes.{littleEndian}
 use Rattle.base.specs.Words.{signed32}
 use Rattle.base.proofs.ByteLaws.{littleEndian-drop}
-use Rattle.refusal.specs.declared.Refusal.the-variants.{BadSheet, NotFinite}
-use Rattle.sheet.specs.Sheet.{fails, gets, malformedIf, isFinite, finite, valueOf, value}
+use Rattle.decimal.specs.Decimal.{textValue}
+use Rattle.refusal.specs.declared.Refusal.the-variants.{BadSheet, NotFinite, LongText}
+use Rattle.sheet.specs.Sheet.{fails, gets, malformedIf, isFinite, finite, text, valueOf, value}
 use Rattle.sheet.specs.Answers.{Said, refuses, reads, Agrees, valueSays, floatRead}
 use Rattle.sheet.specs.declared.Value.{Value}
 use Rattle.sheet.specs.declared.Value.the-variants.{Int, Float as FloatValue, Absent}
 use Rattle.sheet.specs.declared.GotValue.the-variants as answer
-use Rattle.sheet.proofs.AnswerLaws.{from-place, refused, read, same-reading, test-fails}
+use Rattle.sheet.proofs.AnswerLaws.{from-place, refused, read, same-reading, test-passes, test-fails}
 
 -- ---- finite floats
 
@@ -55,12 +56,13 @@ module _ (word : ℕ) where
 
 -- ---- values
 
-unknown : (k : ℕ) (bs : List ℕ) → 2 < k → valueOf k bs ≡ fails BadSheet
+unknown : (k : ℕ) (bs : List ℕ) → 3 < k → valueOf k bs ≡ fails BadSheet
 unfolding valueOf
 unknown zero bs h = absurd (omega arith)
 unknown (suc zero) bs h = absurd (omega arith)
 unknown (suc (suc zero)) bs h = absurd (omega arith)
-unknown (suc (suc (suc k))) bs h = refl
+unknown (suc (suc (suc zero))) bs h = absurd (omega arith)
+unknown (suc (suc (suc (suc k)))) bs h = refl
 
 cut : (k : ℕ) (bs : List ℕ) → k < 2 → length bs < 4 → valueOf k bs ≡ fails BadSheet
 unfolding valueOf
@@ -78,6 +80,46 @@ float-read {sheet} x next h = go (isFinite x)
         (pick t (gets (FloatValue x) (drop next sheet)) (fails NotFinite))
     go true = read refl h tt
     go false = refused refl
+
+-- what is answered of a text, from the place of its length on
+module _ (sheet : List ℕ) (at : ℕ) where
+  abbrev pub TextIs : Said Value → Type 0
+  TextIs says = Agrees sheet (λ v. v) (λ v. Unit) says (text (drop at sheet))
+
+  pub text-end : length sheet ≤ at → TextIs (refuses BadSheet)
+  unfolding text
+  text-end h = refused (ap text (drop-of-length-le sheet h))
+
+  module _ (h : at < length sheet) where
+    -- its length, and what follows that
+    abbrev n : ℕ
+    n = getD sheet at 0
+
+    abbrev behind : List ℕ
+    behind = drop (at + 1) sheet
+
+    pub text-long : 12 < n → TextIs (refuses LongText)
+    unfolding text
+    text-long l = refused (ap text (from-place sheet at h) ∙ rw (lt-ltb 12 n l))
+
+    module _ (l : n ≤ 12) where
+      short : text (drop at sheet) ≡ malformedIf (ltb (length behind) n) (gets (FloatValue (textValue (take n behind))) (drop n behind))
+      unfolding text
+      short = ap text (from-place sheet at h) ∙ rw (le-ltb 12 n l)
+
+      pub text-cut : length sheet < at + 1 + n → TextIs (refuses BadSheet)
+      text-cut s = same-reading short (test-passes _ (lt-ltb (length behind) n (rw length-drop (omega arith))))
+
+      -- the part of the sheet that is read
+      pub text-read : at + 1 + n ≤ length sheet → TextIs (reads (FloatValue (textValue (take 12 (take (at + 1 + n - (at + 1)) behind)))) (at + 1 + n))
+      text-read s =
+          let part = add-sub-cancel-left (at + 1) n in
+          let enough : n ≤ length behind = rw length-drop (omega arith) in
+          let long = length-take-le n behind enough in
+          let all = take-all 12 (take n behind) (omega arith) in
+          same-reading short
+          (test-fails (le-ltb (length behind) n enough)
+          (read (rw (part, all) (ap (gets (FloatValue (textValue (take n behind)))) (drop-drop n (at + 1) sheet))) s tt))
 
 -- what is answered at a place
 module _ (sheet : List ℕ) (at : ℕ) where
@@ -104,8 +146,12 @@ module _ (sheet : List ℕ) (at : ℕ) where
     unfolding valueOf
     value-absent e = read (by-kind 2 e) (omega arith) tt
 
-    pub value-unknown : 2 < kind → Is (refuses BadSheet)
-    value-unknown l = refused (by-kind kind refl ∙ unknown kind rest l)
+    pub value-text : kind ≡ 3 → (says : Said Value) → TextIs sheet (at + 1) says → Is says
+    unfolding valueOf
+    value-text e says i = same-reading (by-kind 3 e) i
+
+    pub value-unknown : 2 < kind → (kind ≡ 3 → ⊥) → Is (refuses BadSheet)
+    value-unknown l n = refused (by-kind kind refl ∙ unknown kind rest (omega arith))
 
     pub value-cut : kind < 2 → length sheet - (at + 1) < 4 → Is (refuses BadSheet)
     value-cut l s = refused (by-kind kind refl ∙ cut kind rest l (rw length-drop s))

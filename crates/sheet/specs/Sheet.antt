@@ -1,4 +1,4 @@
--- Document 01, 'Call sheet': reading one stops at the first 8 or 9.
+-- Document 01, 'Call sheet', and document 02, A4: reading one stops at the first 8, 9 or 17.
 use mathlib.Core.Bool.{Bool, true, false, _&&_, _||_, not}
 use mathlib.Core.List.{List, [], _∷_}
 use mathlib.Core.Option.{Option, none, some}
@@ -10,8 +10,9 @@ use lib.Ieee.{Float, nan, inf, fin, binary32, ofBits, ofInt}
 use Rattle.base.specs.Choice.{pick, within}
 use Rattle.base.specs.Bytes.{littleEndian}
 use Rattle.base.specs.Words.{signed32}
+use Rattle.decimal.specs.Decimal.{textValue}
 use Rattle.refusal.specs.declared.Refusal.{Refusal}
-use Rattle.refusal.specs.declared.Refusal.the-variants.{BadSheet, NotFinite}
+use Rattle.refusal.specs.declared.Refusal.the-variants.{BadSheet, NotFinite, LongText}
 use Rattle.sheet.specs.declared.Value.{Value}
 use Rattle.sheet.specs.declared.Value.the-variants.{Int, Float as FloatValue, Absent}
 use Rattle.sheet.specs.declared.Target.{Target}
@@ -68,7 +69,7 @@ printable (b ∷ bs) = within 33 126 b && printable bs
 unfoldable pub name : List ℕ → Got (List ℕ)
 name bs = number bs andThen λ n r. malformedIf (ltb 32 n || (ltb (length r) n || not (printable (take n r)))) (gets (take n r) (drop n r))
 
--- ---- values: 'kind byte 0 and i32, 1 and f32 bits, 2 alone, little-endian'
+-- ---- values: 'kind byte 0 and i32, 1 and f32 bits, 2 alone, little-endian'; 3 and a text
 
 unfoldable pub isFinite : Float → Bool
 isFinite nan = false
@@ -79,11 +80,19 @@ isFinite (fin s m e) = true
 unfoldable pub finite : Float → List ℕ → Got Value
 finite x r = pick (isFinite x) (gets (FloatValue x) r) (fails NotFinite)
 
+-- 'a length byte and up to 12 bytes'; 17 'a length byte above 12, whatever follows it'. The value is the float that the text stands for.
+unfoldable pub text : List ℕ → Got Value
+text [] = fails BadSheet
+text (n ∷ bs) =
+    pick (ltb 12 n) (fails LongText)
+    (malformedIf (ltb (length bs) n) (gets (FloatValue (textValue (take n bs))) (drop n bs)))
+
 unfoldable pub valueOf : ℕ → List ℕ → Got Value
 valueOf zero bs = malformedIf (ltb (length bs) 4) (gets (Int (signed32 (littleEndian 4 bs 0))) (drop 4 bs))
 valueOf (suc zero) bs = malformedIf (ltb (length bs) 4) (finite (ofBits binary32 (littleEndian 4 bs 0)) (drop 4 bs))
 valueOf (suc (suc zero)) bs = gets Absent bs
-valueOf (suc (suc (suc k))) bs = fails BadSheet
+valueOf (suc (suc (suc zero))) bs = text bs
+valueOf (suc (suc (suc (suc k)))) bs = fails BadSheet
 
 unfoldable pub value : List ℕ → Got Value
 value [] = fails BadSheet

@@ -216,7 +216,26 @@ fn float_value(word: u32, next: usize) -> GotValue
     GotValue::Refused(Refusal::NotFinite)
 }
 
-// A value: kind 0 and an i32, 1 and the bits of an f32, or 2 alone.
+// A text after its length, at most 12 bytes: the float that it stands for.
+fn read_text(sheet: &[u8], at: usize) -> GotValue
+    ensures { λ r. ⌜ ValueIs (now (sheet .entry)) r (sheets.text (drop at (now (sheet .entry)))) ⌝ }
+{
+    if sheet.len() <= at {
+        return GotValue::Refused(Refusal::BadSheet);
+    }
+    let len = sheet[at] as usize;
+    if 12 < len {
+        return GotValue::Refused(Refusal::LongText);
+    }
+    let from = at + 1;
+    let end = from + len;
+    if sheet.len() < end {
+        return GotValue::Refused(Refusal::BadSheet);
+    }
+    GotValue::Read(Value::Float(decimal::text_to_f32(&sheet[from..end])), end)
+}
+
+// A value: kind 0 and an i32, 1 and the bits of an f32, 2 alone, or 3 and a text.
 fn read_value(sheet: &[u8], at: usize) -> GotValue
     ensures { λ r. ⌜ ValueIs (now (sheet .entry)) r (sheets.value (drop at (now (sheet .entry)))) ⌝ }
 {
@@ -229,6 +248,9 @@ fn read_value(sheet: &[u8], at: usize) -> GotValue
         return GotValue::Read(Value::Absent, from);
     }
     if 2 < kind {
+        if kind == 3 {
+            return read_text(sheet, from);
+        }
         return GotValue::Refused(Refusal::BadSheet);
     }
     if sheet.len() - from < 4 {
@@ -328,7 +350,7 @@ fn skip_segments(sheet: &[u8], at: usize, count: usize) -> GotItems
 
 // So many targets, from a place on.
 fn skip_targets(sheet: &[u8], at: usize, count: usize) -> GotItems
-    requires { ⌜ at ≤ length (now sheet) ⌝ }
+    requires { ⌜ (at ≤ length (now sheet)) × (count ≤ 4096) ⌝ }
     ensures { λ r.
         ⌜
         ItemsIs (now (sheet .entry)) r
@@ -336,11 +358,12 @@ fn skip_targets(sheet: &[u8], at: usize, count: usize) -> GotItems
         ⌝ }
 {
     let mut place = at;
-    let mut left = count;
+    // each has two values
+    let mut left = 2 * count;
     while 0 < left {
-        match read_target(sheet, place) {
-            GotTarget::Refused(cause) => return GotItems::Refused(cause),
-            GotTarget::Read(_, next) => place = next,
+        match read_value(sheet, place) {
+            GotValue::Refused(cause) => return GotItems::Refused(cause),
+            GotValue::Read(_, next) => place = next,
         }
         left -= 1;
     }
@@ -381,7 +404,7 @@ fn read_targets(sheet: &[u8], at: usize) -> GotItems
     }
 }
 
-// Reads a sheet: its parts, or the first 8 or 9.
+// Reads a sheet: its parts, or the first 8, 9 or 17.
 pub fn read_sheet(sheet: &[u8]) -> SheetAnswer
     ensures { λ r.
         ⌜

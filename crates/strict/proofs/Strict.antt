@@ -11,7 +11,7 @@ use Rattle.base.specs.Choice.{pick}
 use Rattle.base.specs.Lists.{every, orNext}
 use Rattle.base.proofs.ListLaws.{next-none}
 use Rattle.refusal.specs.declared.Refusal.{Refusal}
-use Rattle.refusal.specs.declared.Refusal.the-variants.{BadMagic, SectionCut, NotDiphone, MissingSection, BadHeader, BadTables, BadIndex, BadSheet, NotFinite, BadSlope, PastLimit, TooManyMarks, ShortBuffer, ShortSlice, BadState, MissingPair}
+use Rattle.refusal.specs.declared.Refusal.the-variants.{BadMagic, SectionCut, NotDiphone, MissingSection, BadHeader, BadTables, BadIndex, BadSheet, NotFinite, BadSlope, PastLimit, TooManyMarks, ShortBuffer, ShortSlice, BadState, MissingPair, LongText}
 use Rattle.refusal.specs.Number.{answerOf}
 use Rattle.voice.specs.Voice.{voiceOf}
 use Rattle.voice.specs.Opening.{openingRefusal}
@@ -40,7 +40,7 @@ use Rattle.unnamed.proofs.AlikeLaws.{need-in-c, report-in-c}
 use Rattle.strict.specs.Claims.{strictly, AnswersAsOff, Planned16, Number16, AsOff, Misses, RefusesBy, Refuses, oldCheckRefusal, AsBefore, StrictCalls}
 use Rattle.strict.proofs.PairLaws.{lacks-pair, lacks-none, all-by-name}
 use Rattle.strict.proofs.OffLaws.{check-same, planned-same, buffers-same, plan-same, handed-same, need-refused-same, need-same, report-refused-same, report-same}
-use Rattle.strict.proofs.Causes.{Earlier, not-earlier, opening-earlier, sheet-earlier, plan-earlier}
+use Rattle.strict.proofs.Causes.{Other, not-other, opening-other, sheet-other, plan-other}
 
 -- ---- what refuses with 16
 
@@ -54,15 +54,15 @@ module _ (file sheet : List ℕ) (o : Settings) where
       rw (a, b, c) refl
 
   -- a cause of document 01's is not it
-  other : (r : Option Refusal) → Earlier r → r ≡ some MissingPair → ⊥
-  other r h e = not-earlier (subst Earlier e h)
+  other : (r : Option Refusal) → Other r → r ≡ some MissingPair → ⊥
+  other r h e = not-other (subst Other e h)
 
   misses-only : checkRefusal file sheet o ≡ some MissingPair → Misses file sheet o
   unfolding checkRefusal readRefusal
   misses-only e =
       by (openingRefusal file) refl (sheetRefusal sheet) refl (missingRefusal (voiceOf file) (sheetOf sheet) o) refl e
-      (λ f. other (openingRefusal file) (opening-earlier file) f) (λ f. other (sheetRefusal sheet) (sheet-earlier sheet) f)
-      (λ f. other (planOf (voiceOf file) (sheetOf sheet) o .refusal) (plan-earlier (voiceOf file) (sheetOf sheet) o) f)
+      (λ f. other (openingRefusal file) (opening-other file) f) (λ f. other (sheetRefusal sheet) (sheet-other sheet) f)
+      (λ f. other (planOf (voiceOf file) (sheetOf sheet) o .refusal) (plan-other (voiceOf file) (sheetOf sheet) o) f)
       (lacking (o .strict) refl (triedFound (voiceOf file) (o .fold) (sheetOf sheet .segments)) refl)
     where
       lacking : (t : Bool) → o .strict ≡ t → (u : Bool) → triedFound (voiceOf file) (o .fold) (sheetOf sheet .segments) ≡ u
@@ -107,6 +107,7 @@ sixteen (some ShortBuffer) e = absurd (omega arith)
 sixteen (some ShortSlice) e = absurd (omega arith)
 sixteen (some BadState) e = absurd (omega arith)
 sixteen (some MissingPair) e = refl
+sixteen (some LongText) e = absurd (omega arith)
 
 -- ---- each function's refusal, by the check's
 

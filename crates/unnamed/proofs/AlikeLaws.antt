@@ -1,4 +1,4 @@
--- Calls under the same settings answer alike, by the contracts alone.
+-- Calls of which the definitions say the same answer alike, by the contracts alone; so do calls under the same settings.
 use mathlib.Core.Path.{_≡_, refl, sym, ap, _∙_}
 use mathlib.Core.List.{List, [], _∷_}
 use Prim.Native.Nat.{ℕ}
@@ -8,19 +8,17 @@ use Rattle.refusal.specs.Number.{answerOf}
 use Rattle.lpc.specs.declared.FilterState.{FilterState}
 use Rattle.call.specs.declared.Settings.{Settings}
 use Rattle.call.specs.Pull.{lentOf, pullOf}
-use Rattle.call.specs.Buffers.{Buffers}
+use Rattle.call.specs.Buffers.{Buffers, plannedOf, buffersAfter}
 use Rattle.call.specs.SpokenCall.{LentBytes}
 use Rattle.reporting.specs.Report.{refusalOfReport, linesLeft}
 use Rattle.reporting.proofs.ReportLaws.{any-filter}
-use Rattle.c_plan.specs.Plan.{Handed, refusalOfNeed, needLeft}
+use Rattle.c_plan.specs.Plan.{Handed, refusalOfNeed, needLeft, refusalOfPlan, handedAfter}
 use Rattle.c_pull.specs.Pull.{numberFor, stateLeft, sliceLeft}
 use Rattle.law.specs.Longer.{SameSettings}
-use Rattle.law.specs.Made.{PlanMade}
-use Rattle.law.specs.MadeInC.{PlanMadeInC}
 use Rattle.law.proofs.Demand3.{plan-made}
 use Rattle.law.proofs.InC.{plan-in-c}
 use Rattle.unnamed.specs.Kept.{Kept, keptOf, PullMade, KeptInC, keptInC, PullMadeInC, made, Pulls, none, more, PullsKept, PullsKeptInC, NeedMadeInC, ReportMadeInC}
-use Rattle.unnamed.specs.Claims.{AnswersAlike, PullsAlike, Alike}
+use Rattle.unnamed.specs.Claims.{Asked, asked, AnswersAlike, PullsAlike, Plans, PlansInC, NeedsInC, ReportsInC, CallsAlike, Alike}
 use Rattle.unnamed.proofs.SameLaws.{planned-same, buffers-same, plan-refused-same, handed-same, need-refused-same, need-same}
 
 -- ---- what a made call answered and left is a definition's
@@ -63,10 +61,10 @@ module _ {S K : Type 0} (Made : S → List ℕ → K → Type 0) (state : K → 
       let i = kept-by (state k) ds ks rest in
       rw (i, e)
 
-module _ {R L : Type 0} (Made : Settings → R → L → Type 0) (p o : Settings) (same : AnswersAlike Made p o) {S K : Type 0} (state : R → L → S)
+module _ {R L : Type 0} (Made : Asked → R → L → Type 0) (c d : Asked) (same : AnswersAlike Made c d) {S K : Type 0} (state : R → L → S)
     (Keeps : LentBytes → S → List (List ℕ) → List K → Type 0) (keeps : LentBytes → S → List (List ℕ) → List K)
     (each : (b : LentBytes) (s : S) (ds : List (List ℕ)) (ks : List K) → Keeps b s ds ks → ks ≡ keeps b s ds) where
-  pulls-alike : PullsAlike Made state Keeps p o
+  pulls-alike : PullsAlike Made state Keeps c d
   pulls-alike r r₁ left left₁ m m₁ lend ds ks ks₁ k k₁ =
       let e = same r r₁ left left₁ m m₁ in
       each _ _ ds ks k
@@ -76,42 +74,59 @@ module _ {R L : Type 0} (Made : Settings → R → L → Type 0) (p o : Settings
 
 -- ---- all of it
 
--- where what a call answers and leaves is a definition's of its settings, and of both the same
-answers-by : {R L : Type 0} (Made : Settings → R → L → Type 0) (answer : Settings → R) (leaves : Settings → L)
-    → ((x : Settings) (r : R) (left : L) → Made x r left → (r ≡ answer x) × (left ≡ leaves x))
-    → (p o : Settings) → answer p ≡ answer o → leaves p ≡ leaves o → AnswersAlike Made p o
-answers-by Made answer leaves is p o a l r r₁ left left₁ m m₁ =
-    let x = is p r left m in
-    let y = is o r₁ left₁ m₁ in
+-- where what a call answers and leaves is a definition's, and of both the same
+answers-by : {R L : Type 0} (Made : Asked → R → L → Type 0) (answer : Asked → R) (leaves : Asked → L)
+    → ((x : Asked) (r : R) (left : L) → Made x r left → (r ≡ answer x) × (left ≡ leaves x))
+    → (c d : Asked) → answer c ≡ answer d → leaves c ≡ leaves d → AnswersAlike Made c d
+answers-by Made answer leaves is c d a l r r₁ left left₁ m m₁ =
+    let x = is c r left m in
+    let y = is d r₁ left₁ m₁ in
     (x .0 ∙ a ∙ sym (y .0), x .1 ∙ l ∙ sym (y .1))
 
-module _ (p o : Settings) (same : SameSettings p o) where
-  plan-alike : (file sheet : List ℕ) (b : Buffers) → AnswersAlike (λ x. PlanMade file sheet x b) p o
-  plan-alike file sheet b =
-      answers-by _ _ _ (λ x r left. plan-made file sheet x b left r) p o (planned-same file sheet p o same b) (buffers-same file sheet p o same b)
+-- what is defined of a call by its voice file, its sheet and its settings
+abbrev by : {A : Type 0} → (List ℕ → List ℕ → Settings → A) → Asked → A
+by f c = f (c .voiceFile) (c .sheetFile) (c .settings)
 
-  in-c-alike : (file sheet : List ℕ) (h : Handed) → AnswersAlike (λ x. PlanMadeInC file sheet x h) p o
-  in-c-alike file sheet h =
-      answers-by _ _ _ (λ x. plan-in-c file sheet x h) p o (ap answerOf (plan-refused-same file sheet p o same h)) (handed-same file sheet p o same h)
+-- the definitions that the contracts cite are the same of both
+pub record SameCalls (c d : Asked) : Type 0 where
+  pub planned : (b : Buffers) → by plannedOf c b ≡ by plannedOf d b
+  pub buffers : (b : Buffers) → by buffersAfter c b ≡ by buffersAfter d b
+  pub planRefused : (h : Handed) → by refusalOfPlan c h ≡ by refusalOfPlan d h
+  pub handed : (h : Handed) → by handedAfter c h ≡ by handedAfter d h
+  pub needRefused : (n : ℕ) → by refusalOfNeed c n ≡ by refusalOfNeed d n
+  pub need : (old : List ℕ) → by needLeft c old ≡ by needLeft d old
+  pub reportRefused : (n : ℕ) → by refusalOfReport c n ≡ by refusalOfReport d n
+  pub lines : (old : List ℕ) → by linesLeft c old ≡ by linesLeft d old
 
-  need-alike : (file sheet old : List ℕ) → AnswersAlike (λ x. NeedMadeInC file sheet x old) p o
-  need-alike file sheet old =
-      answers-by _ _ _ (λ x. need-in-c file sheet x old) p o (ap answerOf (need-refused-same file sheet p o same (length old))) (need-same file sheet p o same old)
+pub calls-alike : (c d : Asked) → SameCalls c d → CallsAlike c d
+calls-alike c d same =
+    record {
+      plan = plan;
+      pulls = λ b. pulls-alike (Plans b) c d (plan b) _ PullsKept _ (λ b. kept-by (PullMade b) (λ (k : Kept). k .returned .state) (keptOf b) (pull-kept b));
+      planInC = plan-c;
+      pullsInC = λ h. pulls-alike (PlansInC h) c d (plan-c h) _ PullsKeptInC _ (λ b. kept-by (PullMadeInC b) (λ (k : KeptInC). k .state) (keptInC b) (pull-in-c b));
+      needInC = λ old. answers-by (NeedsInC old) _ _ (λ x. need-in-c (x .voiceFile) (x .sheetFile) (x .settings) old) c d (ap answerOf (same .needRefused (length old))) (same .need old);
+      reportInC = λ old. answers-by (ReportsInC old) _ _ (λ x. report-in-c (x .voiceFile) (x .sheetFile) (x .settings) old) c d (ap answerOf (same .reportRefused (length old))) (same .lines old);
+    }
+  where
+    plan : (b : Buffers) → AnswersAlike (Plans b) c d
+    plan b = answers-by (Plans b) _ _ (λ x r left. plan-made (x .voiceFile) (x .sheetFile) (x .settings) b left r) c d (same .planned b) (same .buffers b)
 
-  report-alike : (file sheet old : List ℕ) → AnswersAlike (λ x. ReportMadeInC file sheet x old) p o
-  report-alike file sheet old =
-      let any = any-filter file sheet p o (same .join) (same .fold) (same .strict) in
-      answers-by _ _ _ (λ x. report-in-c file sheet x old) p o (ap answerOf (any .refusal (length old))) (any .left old)
+    plan-c : (h : Handed) → AnswersAlike (PlansInC h) c d
+    plan-c h = answers-by (PlansInC h) _ _ (λ x. plan-in-c (x .voiceFile) (x .sheetFile) (x .settings) h) c d (ap answerOf (same .planRefused h)) (same .handed h)
 
-  pub alike : Alike p o
-  alike =
-      record {
-        plan = plan-alike;
-        pulls = λ file sheet b.
-            pulls-alike (λ x. PlanMade file sheet x b) p o (plan-alike file sheet b) _ PullsKept _ (λ b. kept-by (PullMade b) (λ (k : Kept). k .returned .state) (keptOf b) (pull-kept b));
-        planInC = in-c-alike;
-        pullsInC = λ file sheet h.
-            pulls-alike (λ x. PlanMadeInC file sheet x h) p o (in-c-alike file sheet h) _ PullsKeptInC _ (λ b. kept-by (PullMadeInC b) (λ (k : KeptInC). k .state) (keptInC b) (pull-in-c b));
-        needInC = need-alike;
-        reportInC = report-alike;
-      }
+-- calls under the same settings
+pub alike : (p o : Settings) → SameSettings p o → Alike p o
+alike p o same file sheet =
+    let any = any-filter file sheet p o (same .join) (same .fold) (same .strict) in
+    calls-alike (asked file sheet p) (asked file sheet o)
+    (record {
+      planned = planned-same file sheet p o same;
+      buffers = buffers-same file sheet p o same;
+      planRefused = plan-refused-same file sheet p o same;
+      handed = handed-same file sheet p o same;
+      needRefused = need-refused-same file sheet p o same;
+      need = need-same file sheet p o same;
+      reportRefused = any .refusal;
+      lines = any .left;
+    })

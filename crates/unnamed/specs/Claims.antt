@@ -12,6 +12,7 @@ use Rattle.lpc.specs.declared.ResynthType.the-variants.{Fixed, Float}
 use Rattle.call.specs.declared.FilterSetting.{FilterSetting}
 use Rattle.call.specs.declared.FilterSetting.the-variants.{Unnamed, Named}
 use Rattle.call.specs.declared.Settings.{Settings}
+use Rattle.call.specs.declared.Planned.{Planned}
 use Rattle.call.specs.Numbers.{settingsOf}
 use Rattle.call.specs.Buffers.{Buffers, plannedOf, buffersAfter}
 use Rattle.call.specs.SpokenCall.{LentBytes}
@@ -22,27 +23,53 @@ use Rattle.law.specs.Made.{PlanMade}
 use Rattle.law.specs.MadeInC.{PlanMadeInC}
 use Rattle.unnamed.specs.Kept.{keptOf, PullMade, PullsKept, keptInC, PullMadeInC, PullsKeptInC, NeedMadeInC, ReportMadeInC}
 
--- Two calls, each by its settings, answered alike: `Made o r left` says that the call with the settings o returned r and left `left`.
-abbrev pub AnswersAlike : {R L : Type 0} → (Settings → R → L → Type 0) → Settings → Settings → Type 0
-AnswersAlike {R} {L} Made p o = (r r₁ : R) (left left₁ : L) → Made p r left → Made o r₁ left₁ → (r ≡ r₁) × (left ≡ left₁)
+-- a call by what it is asked for with
+pub record Asked : Type 0 where
+  pub voiceFile : List ℕ
+  pub sheetFile : List ℕ
+  pub settings : Settings
+
+abbrev pub asked : List ℕ → List ℕ → Settings → Asked
+asked file sheet o = record { voiceFile = file; sheetFile = sheet; settings = o }
+
+-- Two calls answered alike: `Made c r left` says that the call c returned r and left `left`.
+abbrev pub AnswersAlike : {R L : Type 0} → (Asked → R → L → Type 0) → Asked → Asked → Type 0
+AnswersAlike {R} {L} Made c d = (r r₁ : R) (left left₁ : L) → Made c r left → Made d r₁ left₁ → (r ≡ r₁) × (left ≡ left₁)
 
 -- What a program lends the pulls after a call it works out from what the call answered and left (`lend`), and their slices are any: all
 -- that the pulls kept is the same too.
-abbrev pub PullsAlike : {R L S K : Type 0} → (Settings → R → L → Type 0) → (R → L → S) → (LentBytes → S → List (List ℕ) → List K → Type 0)
-    → Settings → Settings → Type 0
-PullsAlike {R} {L} {S} {K} Made state Pulls p o =
-    (r r₁ : R) (left left₁ : L) → Made p r left → Made o r₁ left₁ → (lend : R → L → LentBytes) (ds : List (List ℕ)) (ks ks₁ : List K)
+abbrev pub PullsAlike : {R L S K : Type 0} → (Asked → R → L → Type 0) → (R → L → S) → (LentBytes → S → List (List ℕ) → List K → Type 0)
+    → Asked → Asked → Type 0
+PullsAlike {R} {L} {S} {K} Made state Pulls c d =
+    (r r₁ : R) (left left₁ : L) → Made c r left → Made d r₁ left₁ → (lend : R → L → LentBytes) (ds : List (List ℕ)) (ks ks₁ : List K)
     → Pulls (lend r left) (state r left) ds ks → Pulls (lend r₁ left₁) (state r₁ left₁) ds ks₁ → ks ≡ ks₁
 
--- 'in everything': answer, state and every lent byte, refused calls included, on every voice file, sheet and buffers; by the functions of
--- `diphone` and by all those for C that take settings
-pub record Alike (p o : Settings) : Type 0 where
-  pub plan : (file sheet : List ℕ) (b : Buffers) → AnswersAlike (λ x. PlanMade file sheet x b) p o
-  pub pulls : (file sheet : List ℕ) (b : Buffers) → PullsAlike (λ x. PlanMade file sheet x b) (λ r left. r .state) PullsKept p o
-  pub planInC : (file sheet : List ℕ) (h : Handed) → AnswersAlike (λ x. PlanMadeInC file sheet x h) p o
-  pub pullsInC : (file sheet : List ℕ) (h : Handed) → PullsAlike (λ x. PlanMadeInC file sheet x h) (λ r left. left .state) PullsKeptInC p o
-  pub needInC : (file sheet old : List ℕ) → AnswersAlike (λ x. NeedMadeInC file sheet x old) p o
-  pub reportInC : (file sheet old : List ℕ) → AnswersAlike (λ x. ReportMadeInC file sheet x old) p o
+-- the contracts of `plan`, `diphone_plan`, `diphone_need` and `diphone_report` of a call, with what it is lent
+abbrev pub Plans : Buffers → Asked → Planned → Buffers → Type 0
+Plans b c = PlanMade (c .voiceFile) (c .sheetFile) (c .settings) b
+
+abbrev pub PlansInC : Handed → Asked → ℕ → Handed → Type 0
+PlansInC h c = PlanMadeInC (c .voiceFile) (c .sheetFile) (c .settings) h
+
+abbrev pub NeedsInC : List ℕ → Asked → ℕ → List ℕ → Type 0
+NeedsInC old c = NeedMadeInC (c .voiceFile) (c .sheetFile) (c .settings) old
+
+abbrev pub ReportsInC : List ℕ → Asked → ℕ → List ℕ → Type 0
+ReportsInC old c = ReportMadeInC (c .voiceFile) (c .sheetFile) (c .settings) old
+
+-- 'in everything': answer, state and every lent byte, refused calls included, whatever they are lent; by the functions of `diphone` and by
+-- all those for C that take a sheet
+pub record CallsAlike (c d : Asked) : Type 0 where
+  pub plan : (b : Buffers) → AnswersAlike (Plans b) c d
+  pub pulls : (b : Buffers) → PullsAlike (Plans b) (λ r left. r .state) PullsKept c d
+  pub planInC : (h : Handed) → AnswersAlike (PlansInC h) c d
+  pub pullsInC : (h : Handed) → PullsAlike (PlansInC h) (λ r left. left .state) PullsKeptInC c d
+  pub needInC : (old : List ℕ) → AnswersAlike (NeedsInC old) c d
+  pub reportInC : (old : List ℕ) → AnswersAlike (ReportsInC old) c d
+
+-- settings by which calls on every voice file and sheet answer alike
+abbrev pub Alike : Settings → Settings → Type 0
+Alike p o = (file sheet : List ℕ) → CallsAlike (asked file sheet p) (asked file sheet o)
 
 -- settings with another filter
 abbrev pub chosen : Settings → FilterSetting → Settings

@@ -4,13 +4,14 @@
 use mathlib.Core.List.{List, [], _∷_, map}
 use Prim.Native.Nat.{ℕ}
 use lib.IntN.{ℤ}
-use lib.Ieee.{ofBits, add, sub, mul, div, lt, le, ne, ofInt, toUnsigned, toSigned}
+use lib.Ieee.{ofBits, add, sub, mul, div, lt, le, ne, ofInt, toUnsigned, toSigned, round}
 use Rattle.base.specs.Lists.{every, firstFailing}
 use Rattle.base.specs.Buffers.{over, flat, upto}
 use Rattle.base.specs.Bytes.{littleEndian, bytesOf}
 use Rattle.base.specs.Words.{low, signed16}
 use Rattle.float.specs.Casts.{narrow}
 use Rattle.float.specs.Nearest.{toNearest}
+use Rattle.decimal.specs.Decimal.{begins, digits, afterSign, afterPoint, whole, part, number, numerator, denominator, negative, textValue}
 use Rattle.ulaw.specs.Ulaw.{decisionValue, quantisedValue, lastInterval, ulawOf, sampleOf}
 use Rattle.adpcm_float.specs.Floating.{exponent, mantissa, floata, srMag, floatb, anMag, wanMag, signed, fmult}
 use Rattle.adpcm_scale.specs.Scale.{magnitude, reconst, adda, antilog, dqOf, functw, filtd, limb, filte, mix, functf}
@@ -27,7 +28,7 @@ use Rattle.voice.specs.Voice.{entryAt, wholeEntry, entriesFrom, voiceAt, places
 use Rattle.voice.specs.Periods.{offset, residualOf, samplesOf, samplesFrom, rowOf, longest, decodeRoom}
 use Rattle.voice.specs.Opening.{hasNeeded, risingIn, goodTables, withinFrames, distinct, goodIndex, openingRefusal, indexFits}
 use Rattle.phoneset.specs.Phones.{vowels, consonants, vc, isVowel}
-use Rattle.sheet.specs.Sheet.{_andThen_, groups, count, printable, name, isFinite, finite, valueOf, value, asF32}
+use Rattle.sheet.specs.Sheet.{_andThen_, groups, count, printable, name, isFinite, finite, text, valueOf, value, asF32}
 use Rattle.sheet.specs.Sheet.{segment, target, repeated, sheetFrom, sheetRefusal, sheetOf}
 use Rattle.sheet.specs.Followers.{nameOf}
 use Rattle.units.specs.Selecting.{foldName, folded, inCluster, firstTried, entryOf, foundFrom, foundAll}
@@ -76,7 +77,7 @@ ifSpoken (Refused r) l = []
 
 -- a voice file, a sheet, settings, the buffers as they are lent, and a sample slice for each pull
 unfoldable pub tried : List ℕ → List ℕ → Settings → Buffers → List (List ℕ) → Result
-unfolding ofBits add sub mul div lt le ne ofInt toUnsigned toSigned every firstFailing over flat upto littleEndian bytesOf low
+unfolding ofBits add sub mul div lt le ne ofInt toUnsigned toSigned round every firstFailing over flat upto littleEndian bytesOf low
     narrow decisionValue quantisedValue lastInterval ulawOf sampleOf exponent mantissa floata srMag floatb anMag wanMag signed fmult
     magnitude reconst adda antilog dqOf functw filtd limb filte mix functf filta filtb difm subtc filtc triga lima speedOf sezi sei
     dqi addb sigpkOf ugb upb zerosOf fa1 fa uga2 upa2 limc uga1 upa1 limd tone thr2 trans polesOf fresh signalsOf delayed nextOf
@@ -84,7 +85,8 @@ unfolding ofBits add sub mul div lt le ne ofInt toUnsigned toSigned every firstF
     magic hasMagic isWhole sectionsFrom sections find saysDiphone isDiphone headerOf inScale goodNumbers goodScales goodHeader
     entryAt wholeEntry entriesFrom voiceAt placesOf voiceOf lookup insert sort sorted sortedIndex offset residualOf samplesOf
     samplesFrom rowOf longest hasNeeded risingIn goodTables withinFrames distinct goodIndex openingRefusal indexFits vowels
-    consonants vc isVowel _andThen_ groups count printable name isFinite finite valueOf value asF32 segment target repeated
+    consonants vc isVowel _andThen_ groups count printable name begins digits afterSign afterPoint whole part number numerator
+    denominator negative textValue isFinite finite text valueOf value asF32 segment target repeated
     sheetFrom sheetRefusal sheetOf foldName folded nameOf inCluster firstTried entryOf foundFrom foundAll triedFound toNearest samplesAt
     midway unitsOfPair unitsFrom unitsAll endRefusal f0At goesOn nextTime markAt climb slopeOf climbTo f0Counted marksFrom pitchMarks
     marksOfPeriods naturalMarks

@@ -9,6 +9,7 @@ use crate::expected::{answers, Spoken, SHORT_BUFFER};
 use crate::refusal::{numbered, ByNumber, LAST};
 use crate::report::Report;
 use crate::taking::Tally;
+use crate::text_calls;
 use crate::voicefile::Voice;
 
 /// The settings and the sorts of voices; the last is of `sts.ressize`.
@@ -25,6 +26,17 @@ type BySort = [[u64; NAMED.len()]; SORTS.len()];
 /// What was made twice, with no filter named and with float named: calls, plans
 /// and pulls.
 const PAIRS: [&str; 4] = ["spoken", "refused", "plans", "pulls"];
+
+/// What was made twice, with texts and with the floats that they stand for: calls
+/// by what they are, then with every text replaced and with some; plans and pulls.
+const TWINS: [&str; 6] = [
+    "spoken",
+    "refused",
+    "every text replaced",
+    "some",
+    "plans",
+    "pulls",
+];
 
 /// Sheets that begin others, their marks compared.
 const BEGUN: [&str; 5] = [
@@ -94,6 +106,8 @@ pub struct Counts {
     pub strict: Strict,
     departure: departure::Counts,
     pub boxes: empty_boxes::Counts,
+    pub typed: text_calls::Counts,
+    twins: [u64; TWINS.len()],
     begun: [u64; BEGUN.len()],
     /// Calls that the Rust would take too long for.
     pub not_compared: u64,
@@ -151,6 +165,13 @@ impl Counts {
         }
     }
 
+    /// What was made with texts and with floats of one more call.
+    pub fn twins(&mut self, more: [usize; TWINS.len()]) {
+        for (sum, more) in self.twins.iter_mut().zip(more) {
+            *sum += more as u64;
+        }
+    }
+
     /// One more sheet that begins another.
     pub fn begun(&mut self, more: [bool; BEGUN.len()]) {
         for (sum, more) in self.begun.iter_mut().zip(more) {
@@ -196,6 +217,11 @@ impl Counts {
         self.strict.check_reached(report);
         self.departure.check_reached(report);
         self.boxes.check_reached(report);
+        self.typed.check_reached(report);
+        report.check(!self.twins.contains(&0), || {
+            let twins = named(&TWINS, &self.twins);
+            format!("made with texts and with floats: {twins}")
+        });
         report.check(!self.begun.contains(&0), || {
             let begun = named(&BEGUN, &self.begun);
             format!("sheets that begin others: {begun}")
@@ -233,6 +259,11 @@ impl Counts {
         self.strict.print();
         self.departure.print();
         self.boxes.print();
+        self.typed.print();
+        println!(
+            "  made with texts and with the floats that they stand for: {}",
+            named(&TWINS, &self.twins)
+        );
         println!(
             "  marks left by a sheet that begins another: {}",
             named(&BEGUN, &self.begun)

@@ -17,6 +17,8 @@ mod strict;
 mod strict_cases;
 mod strict_counts;
 mod twins;
+mod typed_cases;
+mod typed_twins;
 mod unnamed;
 
 use crate::args::Args;
@@ -25,6 +27,7 @@ use crate::empty_boxes::Boxes;
 use crate::expected::{self, Given, Most};
 use crate::report::Report;
 use crate::rng::Rng;
+use crate::text_calls::Typed;
 use crate::voicefile;
 use cases::Generator;
 use counts::Counts;
@@ -40,6 +43,9 @@ const ENDS: u64 = 4;
 
 /// So many are followed by one with targets without a pitch.
 const PITCHES: u64 = 4;
+
+/// So many are followed by one with texts.
+const TYPED: u64 = 4;
 
 /// The call's files and settings, and what it is.
 pub struct Call {
@@ -85,6 +91,11 @@ pub fn run(args: &Args) -> bool {
     pitch_cases::by_f0s(args.seed, &mut each);
     let numbers = args.from / PITCHES..(args.from + calls) / PITCHES;
     pitch_cases::generated(args.seed, numbers, &mut bench);
+    let mut each = |rng: &mut Rng, call: Call| check(rng, &call, &mut bench);
+    typed_cases::by_values(args.seed, &mut each);
+    typed_cases::unfit(args.seed, &mut each);
+    let numbers = args.from / TYPED..(args.from + calls) / TYPED;
+    typed_cases::generated(args.seed, numbers, &mut bench);
     bench.counts.check_reached(&mut bench.report);
     println!("oracle calls: seed {}, {calls} generated calls", args.seed);
     bench.counts.print();
@@ -120,14 +131,26 @@ pub fn check(rng: &mut Rng, call: &Call, bench: &mut Bench) {
     if let (true, Some(given)) = (call.settings.strict, &given) {
         strict::compare(own, call, given, bench);
     }
-    let boxes = match given {
+    if let Some(given) = &given {
+        typed_twins::compare(own, call, given, bench);
+    }
+    let (boxes, typed) = match given {
         Some(Given::Refused(refusal)) => {
-            Boxes::refused(&call.voice, &call.sheet, call.settings, refusal.number())
+            let number = refusal.number();
+            let Call {
+                voice,
+                sheet,
+                settings,
+                ..
+            } = call;
+            let boxes = Boxes::refused(voice, sheet, *settings, number);
+            (boxes, Typed::refused(sheet, *settings, number))
         }
-        Some(Given::Spoken(spoken)) => spoken.boxes,
-        None => None,
+        Some(Given::Spoken(spoken)) => (spoken.boxes, spoken.typed),
+        None => (None, None),
     };
     boxes.iter().for_each(|boxes| bench.counts.boxes.add(boxes));
+    typed.iter().for_each(|typed| bench.counts.typed.add(typed));
     let same = kept[0] == call.voice && kept[1] == call.sheet;
     bench
         .report

@@ -8,33 +8,46 @@ use super::planning::{lengths, request};
 use super::{check, Bench, Call};
 use crate::call::JOINS;
 use crate::expected::{given, Given, Most};
-use crate::gen::{pitch_calls, pitches, voices};
+use crate::gen::voices::{self, VoiceSpec};
+use crate::gen::{pitch_calls, pitches};
 use crate::lent::Room;
 use crate::pitches::goes_on;
 use crate::rng::Rng;
-use crate::sheet::write;
+use crate::sheet::{write, Sheet};
 use std::ops::Range;
 
 /// The buffer of the marks among those of a plan.
 const MARKS: usize = 1;
 
-/// In each manner in turn, mostly in the modified join. Each with a longer sheet.
+/// In each manner in turn. Each with a longer sheet.
 pub fn generated(seed: u64, numbers: Range<u64>, bench: &mut Bench) {
     for case in numbers {
         let rng = &mut Rng::for_case(seed, 12_000_000 + case);
         let (manner, spec, sheet) = pitches::numbered(rng, case);
         let longer = pitches::longer(rng, &sheet, &spec);
-        let settings = mostly_modified(rng);
-        let voice = voices::file(&spec.sections());
-        let [first, second] = [&sheet, &longer].map(|sheet| Call {
-            about: format!("pitches case {case}, {}", manner.name()),
-            voice: voice.clone(),
-            sheet: write(sheet),
-            settings,
-        });
-        check(rng, &first, bench);
-        begins(rng, [&first, &second], goes_on(&sheet, &longer), bench);
+        let about = format!("pitches case {case}, {}", manner.name());
+        with_longer(rng, &about, &spec, [&sheet, &longer], bench);
     }
+}
+
+/// A call, mostly in the modified join, and one of a longer sheet beside it.
+pub fn with_longer(
+    rng: &mut Rng,
+    about: &str,
+    spec: &VoiceSpec,
+    [sheet, longer]: [&Sheet; 2],
+    bench: &mut Bench,
+) {
+    let settings = mostly_modified(rng);
+    let voice = voices::file(&spec.sections());
+    let [first, second] = [sheet, longer].map(|sheet| Call {
+        about: about.to_string(),
+        voice: voice.clone(),
+        sheet: write(sheet),
+        settings,
+    });
+    check(rng, &first, bench);
+    begins(rng, [&first, &second], goes_on(sheet, longer), bench);
 }
 
 /// The calls whose f0s are given.

@@ -1,5 +1,5 @@
-//! One call in two words of settings, on equal buffers: whatever they are lent,
-//! they show the same.
+//! One call asked for in two ways, by other settings or another sheet, on equal
+//! buffers: whatever they are lent, they show the same.
 
 use super::archive::{self, Lent, Request, NEED_BYTES};
 use super::guarded::Guarded;

@@ -7,7 +7,7 @@ use crate::rng::Rng;
 use crate::sheet::{group, pieces, value, write, Place, Segment, Sheet, Target, Value};
 
 /// Float bits that are not finite.
-const NOT_FINITE: [u32; 7] = [
+pub(super) const NOT_FINITE: [u32; 7] = [
     0x7F80_0000,
     0xFF80_0000,
     0x7FC0_0000,
@@ -21,20 +21,16 @@ const NOT_FINITE: [u32; 7] = [
 type Pieces = Vec<(Place, Vec<u8>)>;
 
 /// Gathers the cases of one good sheet.
-struct Cases {
+pub(super) struct Cases {
     sheet: Sheet,
-    pieces: Pieces,
-    all: Vec<Labelled>,
+    pub(super) pieces: Pieces,
+    pub(super) all: Vec<Labelled>,
 }
 
 /// All damages of one good sheet. Keep it small: it is cut at every byte, and
 /// every pair of pieces is damaged.
 pub fn of_sheet(sheet: &Sheet) -> Vec<Labelled> {
-    let mut cases = Cases {
-        sheet: sheet.clone(),
-        pieces: pieces(sheet),
-        all: Vec::new(),
-    };
+    let mut cases = Cases::new(sheet);
     cases.cuts();
     cases.left_over();
     cases.malformed();
@@ -45,7 +41,20 @@ pub fn of_sheet(sheet: &Sheet) -> Vec<Labelled> {
 }
 
 impl Cases {
-    fn add(&mut self, bytes: Vec<u8>, label: Option<Refusal>, reason: impl Into<String>) {
+    pub(super) fn new(sheet: &Sheet) -> Cases {
+        Cases {
+            sheet: sheet.clone(),
+            pieces: pieces(sheet),
+            all: Vec::new(),
+        }
+    }
+
+    pub(super) fn add(
+        &mut self,
+        bytes: Vec<u8>,
+        label: Option<Refusal>,
+        reason: impl Into<String>,
+    ) {
         self.all.push(Labelled {
             bytes,
             label,
@@ -53,7 +62,7 @@ impl Cases {
         });
     }
 
-    fn with(&self, changes: &[(usize, Vec<u8>)]) -> Vec<u8> {
+    pub(super) fn with(&self, changes: &[(usize, Vec<u8>)]) -> Vec<u8> {
         let mut pieces = self.pieces.clone();
         for (at, bytes) in changes {
             pieces[*at].1 = bytes.clone();
@@ -88,7 +97,7 @@ impl Cases {
         }
     }
 
-    fn malformed_forms(&self, at: usize) -> Vec<(Vec<u8>, String)> {
+    pub(super) fn malformed_forms(&self, at: usize) -> Vec<(Vec<u8>, String)> {
         let (place, bytes) = &self.pieces[at];
         match place {
             Place::SegmentCount | Place::TargetCount => {
@@ -119,7 +128,7 @@ impl Cases {
         }
     }
 
-    fn values(&self) -> Vec<usize> {
+    pub(super) fn values(&self) -> Vec<usize> {
         let is_value = |at: &usize| self.pieces[*at].0 == Place::Value;
         (0..self.pieces.len()).filter(is_value).collect()
     }
@@ -163,7 +172,7 @@ impl Cases {
     }
 }
 
-fn join(pieces: &[(Place, Vec<u8>)]) -> Vec<u8> {
+pub(super) fn join(pieces: &[(Place, Vec<u8>)]) -> Vec<u8> {
     pieces.iter().flat_map(|(_, bytes)| bytes.clone()).collect()
 }
 
@@ -223,7 +232,7 @@ fn bad_kinds(good: &[u8]) -> Vec<(Vec<u8>, String)> {
         bytes[0] = kind;
         (bytes, format!("kind {kind}"))
     };
-    [3, 4, 0x30, 0x80, 0xFF].map(kind).to_vec()
+    [5, 4, 0x30, 0x80, 0xFF].map(kind).to_vec()
 }
 
 /// A small good sheet with all kinds of values in all places.
@@ -280,7 +289,7 @@ pub fn limits() -> Vec<Labelled> {
         all.push(one_name(&[byte], label));
         all.push(one_name(&[b'a', byte, b'z'], label));
     }
-    for kind in 3..=255u8 {
+    for kind in 4..=255u8 {
         let bytes = [&[1, 0, kind][..], &[0; 6]].concat();
         all.push(Labelled {
             bytes,

@@ -3,6 +3,7 @@
 
 pub mod damaged_calls;
 pub mod damaged_sheets;
+pub mod damaged_texts;
 pub mod damaged_voices;
 pub mod empty_heads;
 pub mod end_calls;
@@ -14,6 +15,8 @@ pub mod small;
 pub mod strict_calls;
 pub mod target_ends;
 pub mod text;
+pub mod typed;
+pub mod typed_calls;
 pub mod voices;
 
 use crate::refusal::Refusal;
@@ -27,6 +30,7 @@ use voices::VoiceSpec;
 pub const MAX_RESIDUAL: usize = 16_777_215;
 pub const MAX_COUNT: usize = 4096;
 pub const MAX_NAME: usize = 32;
+pub const MAX_TEXT: usize = 12;
 pub const MAX_PLACE: usize = 16_777_215;
 pub const MAX_MARKS: usize = 65_536;
 

@@ -88,7 +88,7 @@ pub fn numbered(rng: &mut Rng, number: u64) -> (Manner, VoiceSpec, Sheet) {
 }
 
 /// A voice of any extent, and a sheet.
-fn any(rng: &mut Rng, manner: Manner) -> (VoiceSpec, Sheet) {
+pub(super) fn any(rng: &mut Rng, manner: Manner) -> (VoiceSpec, Sheet) {
     let words = voices::vocabulary(rng);
     let covering = rng.once_in(2);
     let spec = voices::voice(rng, &words, Extent::Any, covering);

@@ -24,6 +24,8 @@ pub fn about(kind: Kind, draft: &Draft, shown: &Expected) -> String {
         Kind::AtPitches(_) if shown.number == 0 => {
             "spoken, targets without a pitch by their f0s".to_string()
         }
+        Kind::Typed(..) => "spoken, texts".to_string(),
+        Kind::AtTyped(_) if shown.number == 0 => "spoken, texts by what they stand for".to_string(),
         Kind::Several => format!("refused {} of several causes", shown.number),
         _ => format!("refused {}", shown.number),
     };

@@ -7,7 +7,8 @@ use crate::gen::shaped::without_names;
 use crate::gen::small::{self, Shape};
 use crate::gen::target_ends::{self, Manner};
 use crate::gen::voices::{file, plain, with_extras, Vocabulary, VoiceSpec};
-use crate::gen::{damaged_sheets, damaged_voices, end_calls, pitch_calls, pitches, Labelled};
+use crate::gen::{damaged_sheets, damaged_voices, end_calls, pitch_calls, pitches};
+use crate::gen::{typed, typed_calls, Labelled};
 use crate::lent::{Room, NAMES};
 use crate::refusal::Refusal;
 use crate::rng::Rng;
@@ -19,12 +20,13 @@ const MOST_VOICE: usize = 640;
 const MOST_SHEET: usize = 140;
 
 /// The round through the kinds in which no call names float, the strict one
-/// behind it, the one of target ends behind that, and the one of targets without
-/// a pitch.
+/// behind it, the one of target ends behind that, the one of targets without a
+/// pitch, and the one of texts.
 pub const UNNAMED: u64 = 3;
 pub const STRICT: u64 = 4;
 pub const ENDS: u64 = 5;
 pub const PITCHES: u64 = 6;
+pub const TYPED: u64 = 7;
 
 /// A call before its buffers and slices are drawn.
 pub struct Draft {
@@ -49,23 +51,24 @@ impl Draft {
 }
 
 /// The calls at a limit that are small, those whose target ends are given by their
-/// products, and those with targets without a pitch whose f0s are given.
+/// products, those with targets without a pitch whose f0s are given, and those with
+/// texts of which it is given what they stand for.
 pub struct Limits {
     calls: Vec<LabelledCall>,
     ends: Vec<LabelledCall>,
     pitches: Vec<LabelledCall>,
+    typed: Vec<LabelledCall>,
 }
 
 impl Limits {
     pub fn new() -> Limits {
         let mut calls = damaged_calls::all();
         calls.retain(|call| call.voice.len() <= MOST_VOICE && call.sheet.len() <= MOST_SHEET);
-        let ends = end_calls::some();
-        let pitches = pitch_calls::small();
         Limits {
             calls,
-            ends,
-            pitches,
+            ends: end_calls::some(),
+            pitches: pitch_calls::small(),
+            typed: typed_calls::small(),
         }
     }
 
@@ -118,6 +121,8 @@ pub fn draft(rng: &mut Rng, kind: Kind, limits: &Limits) -> Option<Draft> {
         Kind::AtEnds(number) => at_limit(rng, &limits.ends[number % limits.ends.len()]),
         Kind::Pitches(settings, shape, manner) => without_pitch(rng, settings, shape, manner),
         Kind::AtPitches(number) => at_limit(rng, &limits.pitches[number % limits.pitches.len()]),
+        Kind::Typed(settings, shape, manner) => with_texts(rng, settings, shape, manner),
+        Kind::AtTyped(number) => at_limit(rng, &limits.typed[number % limits.typed.len()]),
     };
     let small = draft.voice.len() <= MOST_VOICE && draft.sheet.len() <= MOST_SHEET;
     small.then_some(draft)
@@ -157,6 +162,14 @@ fn without_pitch(
     manner: pitches::Manner,
 ) -> Draft {
     let (spec, sheet) = pitches::little(rng, shape, manner);
+    Draft {
+        reason: manner.name().to_string(),
+        ..drafted(rng, &spec, &sheet, settings)
+    }
+}
+
+fn with_texts(rng: &mut Rng, settings: Settings, shape: Shape, manner: typed::Manner) -> Draft {
+    let (spec, sheet) = typed::little(rng, shape, manner);
     Draft {
         reason: manner.name().to_string(),
         ..drafted(rng, &spec, &sheet, settings)

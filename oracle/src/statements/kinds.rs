@@ -1,16 +1,17 @@
 //! The kinds of calls that a run goes through.
 
-use super::drafts::{ENDS, PITCHES, STRICT};
+use super::drafts::{ENDS, PITCHES, STRICT, TYPED};
 use super::rounding;
 use crate::call::{Filter, Join, Settings};
 use crate::empty_boxes::Boxes;
 use crate::expected::{Given, Most, Spoken, SHORT_BUFFER};
 use crate::gen::damaged_voices::CAUSES;
-use crate::gen::pitches;
 use crate::gen::small::Shape;
 use crate::gen::target_ends::{Manner, MANNERS};
+use crate::gen::{pitches, typed};
 use crate::refusal::Refusal;
 use crate::rng::Rng;
+use crate::text_calls::Typed;
 
 /// The most that a call may make, so that it is computed in about a second.
 const SMALL: Most = Most {
@@ -23,7 +24,7 @@ const LONG: Most = Most {
 };
 
 /// Rounds through the kinds before they begin again.
-const ROUNDS: u64 = PITCHES + 1;
+const ROUNDS: u64 = TYPED + 1;
 
 #[derive(Clone, Copy, Debug, PartialEq, Eq)]
 pub enum Kind {
@@ -72,6 +73,11 @@ pub enum Kind {
     /// The call of this number with targets without a pitch whose f0s are given,
     /// spoken or refused.
     AtPitches(usize),
+    /// Spoken, with texts in a manner.
+    Typed(Settings, Shape, typed::Manner),
+    /// The call of this number with texts of which it is given what each stands for,
+    /// spoken or refused.
+    AtTyped(usize),
 }
 
 impl Kind {
@@ -121,7 +127,7 @@ pub fn all() -> Vec<Kind> {
 
 /// The kind of a call by its number, and the round through all kinds that it is
 /// in. One round has target ends where rounding shows instead, one targets without
-/// a pitch.
+/// a pitch, one texts.
 pub fn of(number: u64) -> (Kind, u64) {
     let kinds = all();
     let round = number / kinds.len() as u64 % ROUNDS;
@@ -129,6 +135,7 @@ pub fn of(number: u64) -> (Kind, u64) {
     let kind = match round {
         ENDS => ends(kinds.len())[place],
         PITCHES => pitches(kinds.len())[place],
+        TYPED => typed(kinds.len())[place],
         _ => kinds[place].in_round(round),
     };
     (kind, round)
@@ -153,6 +160,18 @@ fn pitches(count: usize) -> Vec<Kind> {
         )
     };
     modified(count, kind, Kind::AtPitches)
+}
+
+/// The manners of texts in turn; the rest by what each text stands for.
+fn typed(count: usize) -> Vec<Kind> {
+    let kind = |number: usize, settings, shape| {
+        Kind::Typed(
+            settings,
+            shape,
+            typed::MANNERS[number % typed::MANNERS.len()],
+        )
+    };
+    modified(count, kind, Kind::AtTyped)
 }
 
 /// Every setting of the modified join with every shape, numbered; the rest of so
@@ -218,7 +237,7 @@ const fn shape(g721: bool, sizes: bool) -> Shape {
 /// are to have periods.
 pub fn is_of(rng: &mut Rng, kind: Kind, voice: &[u8], given: &Given, number: usize) -> bool {
     match (kind, given) {
-        (Kind::AtLimit(_) | Kind::AtEnds(_) | Kind::AtPitches(_), _) => true,
+        (Kind::AtLimit(_) | Kind::AtEnds(_) | Kind::AtPitches(_) | Kind::AtTyped(_), _) => true,
         (Kind::Voice(cause) | Kind::Sheet(cause) | Kind::Call(cause), _) => {
             number == cause.number()
         }
@@ -241,6 +260,7 @@ fn is_spoken(rng: &mut Rng, kind: Kind, voice: &[u8], call: &Spoken) -> bool {
         Kind::Rounding => rounding::shows(voice, call),
         Kind::Ends(_, _, manner) => periods > 1 && has_ends(call, manner),
         Kind::Pitches(_, _, manner) => periods > 1 && has_empty_boxes(call, manner),
+        Kind::Typed(_, _, manner) => periods > 1 && has_texts(call, manner),
         _ => periods > 1,
     }
 }
@@ -267,5 +287,15 @@ fn has_empty_boxes(call: &Spoken, manner: pitches::Manner) -> bool {
         pitches::Manner::Zero => boxes.is_some(),
         pitches::Manner::Tiny => boxes.is_some_and(Boxes::has_other_marks),
         _ => boxes.is_some_and(Boxes::shows),
+    }
+}
+
+/// Whether a call has texts, and a tie is told by its marks or ends, where its
+/// manner is that.
+fn has_texts(call: &Spoken, manner: typed::Manner) -> bool {
+    let typed = call.typed.as_ref();
+    match manner {
+        typed::Manner::Tie => typed.is_some_and(Typed::shows_tie),
+        _ => typed.is_some(),
     }
 }

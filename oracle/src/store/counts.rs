@@ -6,6 +6,7 @@ use crate::departure;
 use crate::empty_boxes::{self, Boxes};
 use crate::expected::answers;
 use crate::refusal::{numbered, ByNumber, Refusal};
+use crate::text_calls::{self, Typed};
 use crate::voicefile;
 use std::collections::{BTreeMap, BTreeSet};
 
@@ -26,6 +27,7 @@ pub struct Counts {
     spoken: [usize; 3],
     departure: departure::Counts,
     boxes: empty_boxes::Counts,
+    typed: text_calls::Counts,
     /// What was spoken: settings, codecs, orders; and what was refused with 16.
     met: BTreeSet<String>,
 }
@@ -56,10 +58,14 @@ impl Counts {
             } = call;
             let boxes = Boxes::refused(voice, sheet, *settings, call.number);
             boxes.iter().for_each(|boxes| self.boxes.add(boxes));
+            let typed = Typed::refused(sheet, *settings, call.number);
+            typed.iter().for_each(|typed| self.typed.add(typed));
             return;
         };
         let boxes = spoken.boxes.iter();
         boxes.for_each(|boxes| self.boxes.add(boxes));
+        let typed = spoken.typed.iter();
+        typed.for_each(|typed| self.typed.add(typed));
         self.departure.add(&spoken.departure);
         let [periods, samples] = [spoken.summary[1], spoken.summary[2]];
         let more = [1, periods, samples];
@@ -92,6 +98,7 @@ impl Counts {
         }
         missing.extend(self.departure.missing());
         missing.extend(self.boxes.missing());
+        missing.extend(self.typed.missing());
         let mut wanted = vec![order(0), order(32)];
         wanted.extend(JOINS.map(missing_in));
         for settings in Settings::all() {
@@ -116,6 +123,7 @@ impl Counts {
         println!("  spoken: {calls} calls, {periods} periods, {samples} samples");
         self.departure.print();
         self.boxes.print();
+        self.typed.print();
     }
 }
 

@@ -8,6 +8,7 @@ mod larger;
 mod pitches;
 mod record;
 mod strict;
+mod typed;
 
 use crate::args::Args;
 use crate::statements::{self, drafts::Limits};
@@ -54,8 +55,8 @@ pub fn run(args: &Args) -> bool {
 /// The calls of `oracle statements` and larger ones, each as it was drawn and
 /// as document 01's program speaks it; then the edges. Those that name no filter
 /// stand behind them, some more of `oracle statements` among them, then the
-/// strict ones, those with target ends by their products, and those with targets
-/// without a pitch at the end.
+/// strict ones, those with target ends by their products, those with targets
+/// without a pitch, and those with texts at the end.
 pub fn calls(seed: u64, count: u64) -> Vec<Stored> {
     let limits = Limits::new();
     let small = |numbers: Range<u64>| numbers.filter_map(|number| small(seed, number, &limits));
@@ -67,6 +68,7 @@ pub fn calls(seed: u64, count: u64) -> Vec<Stored> {
     calls.extend(strict::all());
     calls.extend(ends::all());
     calls.extend(pitches::all());
+    calls.extend(typed::all());
     calls
 }
 

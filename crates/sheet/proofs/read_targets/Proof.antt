@@ -3,6 +3,7 @@ use Rattle.sheet.specs.Sheet.{target}
 use Rattle.sheet.specs.Answers.{numberSays}
 use Rattle.sheet.proofs.AnswerLaws.{read-within}
 use Rattle.sheet.proofs.PlaceLaws.{uncounted, by-count}
+use native.Mathlib.Omega.{arith}
 use borrow.Author.Needs.{needs}
 use Rattle.sheet.proofs.read_targets.Statement.{statement}
 use Rattle.sheet.proofs.read_targets.Tie as tie
@@ -17,7 +18,9 @@ enum-known-count : tie.Need-enum-known-count
 enum-known-count c = search needs
 
 skip-targets-requires : tie.Need-skip-targets-requires
-skip-targets-requires c κs = read-within (c .before .before .before .read-count .ensures) (ap numberSays (c .before .count .given .1)) .0
+skip-targets-requires c κs =
+    let w = read-within (c .before .before .before .read-count .ensures) (ap numberSays (c .before .count .given .1)) in
+    (w .0, omega (arith, w .1))
 
 returns : tie.Need-returns
 returns c = uncounted (λ m. target) _ _ (c .before .before .before .read-count .ensures) (ap numberSays (c .before .cause .given .1))

@@ -8,13 +8,13 @@ use Rattle.sheet.proofs.skip_segments.Statement.{statement}
 use Rattle.sheet.proofs.skip_segments.Tie as tie
 
 abbrev Inv-loop : tie.InvT-loop
-Inv-loop sheet at count place₀ left₀ place left = Skipping (segment count) sheet count at place left
+Inv-loop sheet at count place₀ left₀ place left = Skipping (segment count) sheet count at count place left
 
 abbrev μ-loop : tie.MeasureT-loop
 μ-loop sheet at count place₀ left₀ place left = left
 
 loop-holds : tie.Need-loop-holds Inv-loop μ-loop
-loop-holds c = skip-first _ _ _ _ (c .before .pre)
+loop-holds c = skip-first _ _ _ _ _ (c .before .pre)
 
 read-segment-requires : tie.Need-read-segment-requires Inv-loop μ-loop
 read-segment-requires c κs = search needs
@@ -25,7 +25,7 @@ enum-known-cause c = search needs
 returns : tie.Need-returns Inv-loop μ-loop
 returns c =
     let k = c .before .before .before .before .before in
-    skip-refused _ _ _ _ _ _ (k .loop .inv) (λ e. omega arith) (c .before .before .before .read-segment .ensures) (ap segmentSays (c .before .cause .given .1))
+    skip-refused _ _ _ _ _ _ _ (k .loop .inv) (λ e. omega arith) (c .before .before .before .read-segment .ensures) (ap segmentSays (c .before .cause .given .1))
 
 enum-known-next : tie.Need-enum-known-next Inv-loop μ-loop
 enum-known-next c = search needs
@@ -39,10 +39,10 @@ loop-less c = search needs
 loop-again : tie.Need-loop-again Inv-loop μ-loop
 loop-again c =
     let k = c .before .before .before .before .before in
-    skip-on _ _ _ _ _ _ (k .loop .inv) (λ e. omega arith) (c .before .before .before .read-segment .ensures) (ap segmentSays (c .before .next .given .1))
+    skip-on _ _ _ _ _ _ _ (k .loop .inv) (λ e. omega arith) (c .before .before .before .read-segment .ensures) (ap segmentSays (c .before .next .given .1))
 
 returns-2 : tie.Need-returns-2 Inv-loop μ-loop
-returns-2 c = skip-done _ _ _ _ _ _ (c .before .loop .inv) (omega arith)
+returns-2 c = skip-done _ _ _ _ _ _ _ (c .before .loop .inv) (omega arith)
 
 pub skip-segments-spec : {M : Type 1} → statement M
 skip-segments-spec =

@@ -1,0 +1,1 @@
+// Theorems: times typed as text, read and spoken as the floats that they stand for.
