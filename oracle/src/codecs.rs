@@ -1,9 +1,10 @@
 //! `oracle codecs`: mu-law and the G.721 decoder of libprobe.a beside the
 //! Rust's: every byte, every sample, and packed codes of several kinds, each
-//! decoded from a fresh state.
+//! decoded from a fresh state. `powers` has the decoder's count of powers of two.
 
 use crate::args::Args;
 use crate::dsp;
+use crate::powers;
 use crate::probe;
 use crate::rng::Rng;
 use crate::speech::Speech;
@@ -38,6 +39,7 @@ pub fn run(args: &Args) -> bool {
     let count = args.count.unwrap_or(COUNT).max(1);
     println!("oracle codecs: seed {}, count {count}", args.seed);
     let mut agreed = bytes_and_samples();
+    agreed &= powers::agree(args.seed, args.all);
     #[cfg(feature = "probe_state")]
     {
         agreed &= states::agree(args.seed);

@@ -40,6 +40,8 @@ mod period_report;
 mod pitch_checks;
 mod pitches;
 #[cfg(feature = "probe")]
+mod powers;
+#[cfg(feature = "probe")]
 mod probe;
 #[cfg(feature = "probe_call")]
 mod probe_call;
@@ -83,7 +85,7 @@ const USAGE: &str = "usage:
   oracle store [--seed N] [--count N] --out FILE
   oracle floats [--seed N] [--count N] [--all]
   oracle texts [--seed N] [--count N]
-  oracle codecs [--seed N] [--count N]
+  oracle codecs [--seed N] [--count N] [--all]
   oracle codecs --codes FILE [--count N]
   oracle filters [--seed N] [--count N]
   oracle openings [--seed N] [--from N] [--count N]

@@ -17,6 +17,7 @@ unsafe extern "C" {
     pub safe fn probe_divide_by_16384(acc: u32) -> u32;
     pub safe fn probe_ulaw_to_i16(byte: u8) -> i16;
     pub safe fn probe_i16_to_ulaw(sample: i16) -> u8;
+    pub safe fn probe_quan(val: i32) -> u32;
     fn probe_text_to_f32(text: *const u8, text_len: usize) -> f32;
     fn probe_decode_adpcm(packed: *const u8, packed_len: usize, out: *mut u8, out_len: usize);
     fn probe_resynthesise(

@@ -1,4 +1,4 @@
-"""Tests of tools/formats.py, sheet, voice-info, draw, draw-crates, believed, make-example and make-edges."""
+"""Tests of tools/formats.py, sheet, voice-info, draw, draw-crates, believed, constants, make-example and make-edges."""
 import collections
 import contextlib
 import importlib.machinery
@@ -68,7 +68,7 @@ def loaded(name):
     return module
 
 
-TOOLS = {name: loaded(name) for name in ("sheet", "voice-info", "draw", "draw-crates", "believed")}
+TOOLS = {name: loaded(name) for name in ("sheet", "voice-info", "draw", "draw-crates", "believed", "constants")}
 
 
 def run(tool, *words):
@@ -920,6 +920,107 @@ class Pages(unittest.TestCase):
         self.assertEqual(list(cited(source, "pub fn f() ensures { second }\n{")), [("a", "One")])
         self.assertEqual(list(cited(source, "ensures { two.third }")), [("b", "Two")])
         self.assertEqual(list(cited(source, "ensures { third }")), [])
+
+
+def archive(*objects):
+    """An archive of objects, each with these sections: name, type, flags, contents."""
+    files = [(b"/", b"\0\0\0\0x"), *((b"table.o/", an_object(sections)) for sections in objects)]
+    members = (b"%-48s%-10d`\n%s" % (name, len(data), data + b"\n" * (len(data) % 2)) for name, data in files)
+    return b"!<arch>\n" + b"".join(members)
+
+
+def an_object(sections):
+    sections = [(b"", 0, 0, b""), *sections]
+    names = b"".join(name + b"\0" for name, *_ in sections) + b"names\0"
+    sections.append((b"names", 3, 0, names))
+    heads, contents = b"", b""
+    for name, kind, flags, data in sections:
+        place = names.index(name + b"\0")
+        heads += struct.pack("<IIQQQQIIQQ", place, kind, flags, 0, 64 + len(contents), len(data), 0, 0, 1, 0)
+        contents += data
+    head = b"\x7fELF\2\1" + bytes(12) + struct.pack("<H20xQ10x", 62, 64 + len(contents))
+    return head + struct.pack("<HHH", 64, len(sections), len(sections) - 1) + contents + heads
+
+
+class Constants(unittest.TestCase):
+    NONE = "no table of the fifteen powers of two\n"
+    POWERS = [1 << k for k in range(15)]
+
+    def on(self, data):
+        with tempfile.TemporaryDirectory() as folder:
+            path = Path(folder) / "lib.a"
+            path.write_bytes(data)
+            status, out, err = run("constants", str(path))
+        return status, out, err.replace(str(path), "lib.a")
+
+    def test_read_only(self):
+        """Constants are .rodata alone; code, what can be written, what is not loaded and what has no contents are not listed."""
+        sections = [(b".text", 1, 6, b"code"), (b".rodata", 1, 2, bytes(1200)), (b".rodata.cst16", 1, 18, bytes(32))]
+        sections += [(b".eh_frame", 1, 2, bytes(80)), (b".data", 1, 3, bytes(8)), (b".comment", 1, 0, b"c"), (b".bss", 8, 3, b"")]
+        listed = ".rodata                     1,200\n.rodata.cst16                  32\n.eh_frame                      80\n"
+        self.assertEqual(self.on(archive(sections)), (0, listed + "1,232 bytes of constants\n" + self.NONE, ""))
+
+    def test_found(self):
+        """The table is found in all that is loaded, and only there."""
+        table = struct.pack("<3s15i", b"abc", *self.POWERS)
+        told = "a table of powers of two: {} from byte 3, every 4 bytes: " + " ".join(map(str, self.POWERS)) + "\n"
+        code = b".code", 1, 6, b"\x90"
+        for name, flags, status in [(".rodata", 2, 1), (".data", 3, 1), (".text", 6, 1), (".debug", 0, 0)]:
+            found = self.on(archive([code, (name.encode(), 1, flags, table)]))
+            self.assertEqual((found[0], found[1].splitlines(True)[-1]), (status, told.format(name) if status else self.NONE))
+
+    def test_in_parts(self):
+        """As rt compiles a table: the first eight among the constants, the others stored by code. Also in two objects."""
+        code = "31c04883ff0e772f0f2805000000000f294424d848b8000100020004000848894424e8c74424f00010002066c74424f400400fb7447cd8c3"
+        parts = [(b".rodata.cst16", 1, 18, struct.pack("<8H", *self.POWERS[:8])), (b".text.at", 1, 6, bytes.fromhex(code))]
+        lines = [".rodata.cst16 from byte 0, every 2 bytes: 1 2 4 8 16 32 64 128", ".text.at from byte 22, every 2 bytes: 256 512 1024 2048"]
+        for objects in ([parts], [parts[:1], parts[1:]]):
+            status, out, _ = self.on(archive(*objects))
+            self.assertEqual((status, out.splitlines()[2:]), (1, ["a table of powers of two: " + line for line in lines]))
+        for part in parts:
+            self.assertEqual(self.on(archive([part]))[0], 0)
+
+    def test_twelve(self):
+        for count, status in [(11, 0), (12, 1), (13, 1), (14, 1)]:
+            contents = struct.pack(f"<{count}H", *self.POWERS[-count:])
+            self.assertEqual(self.on(archive([(b".rodata", 1, 2, contents)]))[0], status, count)
+
+    def test_rows(self):
+        """Rising and falling, 2 to 16 bytes apart and equally so; none of three, and none out of order."""
+        rows = TOOLS["constants"].rows
+        for powers in (self.POWERS, self.POWERS[::-1], self.POWERS[3:7]):
+            for far in range(2, 18):
+                contents = b"".join(struct.pack("<H", power) + b"\xff" * (far - 2) for power in powers)
+                self.assertEqual(rows(contents), [(powers, 0, far)] if far <= 16 else [], far)
+        for powers in (self.POWERS[:3], [1, 2, 4, 16, 32, 64], [8, 1, 4, 2], [1, 2, 0, 4, 8]):
+            self.assertEqual(rows(struct.pack(f"<{len(powers)}H", *powers)), [], powers)
+        two = [number for pair in zip(self.POWERS[:8], self.POWERS[:6:-1]) for number in pair]
+        found = [(self.POWERS[:8], 0, 4), (self.POWERS[:6:-1], 2, 4)]
+        self.assertEqual(rows(struct.pack("<16H", *two)), found, "side by side, one rising and one falling")
+
+    def test_refused(self):
+        whole = archive([(b".rodata", 1, 2, bytes(8))])
+        head = struct.pack("<HHH", 64, 3, 2)
+        damaged = {
+            "it is no archive": [b"", whole[1:]],
+            "it is damaged at byte 74": [whole[:74] + b"x" * 60 + whole[134:], whole[:122] + b"-60       " + whole[132:]],
+            "it is cut short": [whole[:-9]],
+            "a part of it is no x86-64 object": [whole.replace(b"ELF\2", b"ELF\1"), whole.replace(b"\0\x3e\0", b"\0\xb7\0")],
+            "a part of it is damaged": [
+                whole.replace(head, struct.pack("<HHH", 64, 9, 2)),
+                whole.replace(head, struct.pack("<HHH", 64, 3, 7)),
+                whole.replace(struct.pack("<QQ", 64, 8), struct.pack("<QQ", 64, 8000)),
+                whole[:174] + struct.pack("<Q", 1 << 63) + whole[182:],
+            ],
+            "nothing of it is loaded": [whole[:8], archive([]), archive([(b".lto", 1, 0, b"code")])],
+        }
+        for message, files in damaged.items():
+            for data in files:
+                self.assertNotEqual(data, whole, message)
+                self.assertEqual(self.on(data), (2, "", f"constants: lib.a: {message}\n"))
+        self.assertEqual(run("constants", "none.a"), (2, "", "constants: none.a: No such file or directory\n"))
+        self.assertEqual(run("constants", "--help")[0], 0)
+        self.assertEqual(run("constants", "a", "b"), (2, "", "constants: one archive at a time; --help says more\n"))
 
 
 class Papers(unittest.TestCase):

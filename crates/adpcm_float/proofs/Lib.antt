@@ -1,2 +1,4 @@
--- Laws about the floating format.
+-- Laws about the powers of two, which are computed at their edges too, and about the floating format.
+pub mod PowerLaws
 pub mod FloatLaws
+pub mod Computed

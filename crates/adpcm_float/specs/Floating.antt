@@ -3,29 +3,31 @@
 -- magnitude (DQ) or floating format (DQn, SRn). `>> k` is `/ 2 ^ k`, `<< k` is `* 2 ^ k`, `& (2 ^ k - 1)` is `% 2 ^ k`, and the `**` of
 -- two bits is their sum modulo 2. The words are as wide as in G.726; where those of G.721 (1988) are narrower, no value at 32 kbit/s needs
 -- more.
-use Prim.Native.Nat.{ℕ, zero, suc, _+_, _-_, _*_, _/_, _%_, _^_}
+use Prim.Native.Nat.{ℕ, _+_, _-_, _*_, _/_, _%_, _^_}
 use lib.Dec.{leb, ltb, eqb}
+use lib.IntN.{pos}
 use Rattle.base.specs.Choice.{pick}
+use Rattle.adpcm_float.specs.Powers.{powersNotAbove}
 
--- EXP of a magnitude below 2 ^ k: 0 for 0, else one more than the position of its highest set bit
-unfoldable pub exponent : ℕ → ℕ → ℕ
-exponent zero mag = zero
-exponent (suc k) mag = pick (leb (2 ^ k) mag) (suc k) (exponent k mag)
+-- EXP of a magnitude of 15 bits: 0 for 0, else one more than the position of its highest set bit. That is how many of the fifteen powers of
+-- two are not above it
+abbrev pub exponent : ℕ → ℕ
+exponent mag = powersNotAbove (pos mag)
 
 -- MANT: 1 << 5 for 0, else (MAG << 6) >> EXP
 unfoldable pub mantissa : ℕ → ℕ
-mantissa mag = pick (eqb mag 0) 32 (mag * 64 / 2 ^ exponent 15 mag)
+mantissa mag = pick (eqb mag 0) 32 (mag * 64 / 2 ^ exponent mag)
 
 -- FLOATA: the quantised difference DQ, in signed magnitude, as DQ0
 unfoldable pub floata : ℕ → ℕ
-floata dq = dq / 32768 * 1024 + exponent 15 (dq % 32768) * 64 + mantissa (dq % 32768)
+floata dq = dq / 32768 * 1024 + exponent (dq % 32768) * 64 + mantissa (dq % 32768)
 
 -- FLOATB: the reconstructed signal SR, in two's complement, as SR0
 unfoldable pub srMag : ℕ → ℕ
 srMag sr = pick (ltb sr 32768) sr ((65536 - sr) % 32768)
 
 unfoldable pub floatb : ℕ → ℕ
-floatb sr = sr / 32768 * 1024 + exponent 15 (srMag sr) * 64 + mantissa (srMag sr)
+floatb sr = sr / 32768 * 1024 + exponent (srMag sr) * 64 + mantissa (srMag sr)
 
 -- FMULT: a coefficient An (or Bn) of 16 bits times SRn (or DQn). AnMAG has 13 bits
 unfoldable pub anMag : ℕ → ℕ
@@ -43,4 +45,4 @@ signed sign mag = pick (eqb sign 0) mag ((65536 - mag) % 65536)
 unfoldable pub fmult : ℕ → ℕ → ℕ
 fmult an srn =
     signed ((an / 32768 + srn / 1024) % 2)
-    (wanMag ((srn % 64 * mantissa (anMag an) + 48) / 16) (srn / 64 % 16 + exponent 15 (anMag an)))
+    (wanMag ((srn % 64 * mantissa (anMag an) + 48) / 16) (srn / 64 % 16 + exponent (anMag an)))

@@ -1,15 +1,30 @@
-// G.726's floating format: FLOATA, FLOATB, FMULT. A `requires` here is a word length that the
-// caller's own bounds give.
+// G.726's floating format: FLOATA, FLOATB, FMULT; and the count of powers of two that its exponents
+// are. A `requires` here is a word length that the caller's own bounds give.
 ghost use mathlib.Core.Path.{_≡_};
 ghost use Prim.Native.Nat.{_+_, _*_, _<_, _≤_};
 ghost use Rattle.adpcm_float.specs.Floating as block;
+ghost use Rattle.adpcm_float.specs.Powers.{powersNotAbove};
 
 // EXP of a magnitude: how many bits it has. Twice it and 1 has one more, and is never 0.
 fn exponent(mag: u32) -> u32
     requires { ⌜ mag < 32768 ⌝ }
-    ensures { λ r. ⌜ (r ≡ block.exponent 15 mag) × (r ≤ 15) ⌝ }
+    ensures { λ r. ⌜ (r ≡ block.exponent mag) × (r ≤ 15) ⌝ }
 {
     31 - u32::leading_zeros(2 * mag + 1)
+}
+
+// How many of the fifteen powers of two are not above a number, from its bits: the Rust's `quan`. The
+// decoder's magnitudes have 15 bits, so `exponent` serves them without these tests.
+pub fn quan(val: i32) -> u32
+    ensures { λ r. ⌜ (r ≡ powersNotAbove val) × (r ≤ 15) ⌝ }
+{
+    if val < 1 {
+        return 0;
+    }
+    if 0x4000 <= val {
+        return 15;
+    }
+    exponent(val as u32)
 }
 
 // MANT of a magnitude: its six highest bits. The first of them is set, and for 0 it alone.
@@ -23,7 +38,7 @@ fn mantissa(mag: u32) -> u32
 // A sign bit and a magnitude in floating format.
 fn floating(sign: u32, mag: u32) -> u16
     requires { ⌜ (sign < 2) × (mag < 32768) ⌝ }
-    ensures { λ r. ⌜ r ≡ sign * 1024 + block.exponent 15 mag * 64 + block.mantissa mag ⌝ }
+    ensures { λ r. ⌜ r ≡ sign * 1024 + block.exponent mag * 64 + block.mantissa mag ⌝ }
 {
     (sign * 1024 + exponent(mag) * 64 + mantissa(mag)) as u16
 }

@@ -9,6 +9,7 @@ ghost use lib.Ieee.{binary32, ofBits, toBits, ofInt, toSigned, toUnsigned};
 ghost use lib.ListN.{length, take};
 ghost use lib.Signed.{quotZ};
 ghost use Rattle.adpcm.specs.Decoder.{decoded};
+ghost use Rattle.adpcm_float.specs.Powers.{powersNotAbove};
 ghost use Rattle.base.specs.Buffers.{over, flat};
 ghost use Rattle.base.specs.Bytes.{bytesOf};
 ghost use Rattle.base.specs.Choice.{pick};
@@ -138,6 +139,14 @@ pub extern "C" fn probe_i16_to_ulaw(sample: i16) -> u8
     ensures { λ r. ⌜ r ≡ ulawOf sample ⌝ }
 {
     ulaw::i16_to_ulaw(sample)
+}
+
+// Rust's `quan` over its table of powers.
+#[no_mangle]
+pub extern "C" fn probe_quan(val: i32) -> u32
+    ensures { λ r. ⌜ r ≡ powersNotAbove val ⌝ }
+{
+    adpcm_float::quan(val)
 }
 
 // Rust's `decode_adpcm`, into a lent buffer: where it is too short, nothing is written.

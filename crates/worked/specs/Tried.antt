@@ -13,7 +13,8 @@ use Rattle.float.specs.Casts.{narrow}
 use Rattle.float.specs.Nearest.{toNearest}
 use Rattle.decimal.specs.Decimal.{begins, digits, afterSign, afterPoint, whole, part, number, numerator, denominator, negative, textValue}
 use Rattle.ulaw.specs.Ulaw.{decisionValue, quantisedValue, lastInterval, ulawOf, sampleOf}
-use Rattle.adpcm_float.specs.Floating.{exponent, mantissa, floata, srMag, floatb, anMag, wanMag, signed, fmult}
+use Rattle.adpcm_float.specs.Powers.{notAbove, powersNotAbove}
+use Rattle.adpcm_float.specs.Floating.{mantissa, floata, srMag, floatb, anMag, wanMag, signed, fmult}
 use Rattle.adpcm_scale.specs.Scale.{magnitude, reconst, adda, antilog, dqOf, functw, filtd, limb, filte, mix, functf}
 use Rattle.adpcm_scale.specs.Scale.{filta, filtb, difm, subtc, filtc, triga, lima, speedOf}
 use Rattle.adpcm_predict.specs.Predictor.{sezi, sei, dqi, addb, sigpkOf, ugb, upb, zerosOf}
@@ -78,7 +79,8 @@ ifSpoken (Refused r) l = []
 -- a voice file, a sheet, settings, the buffers as they are lent, and a sample slice for each pull
 unfoldable pub tried : List ℕ → List ℕ → Settings → Buffers → List (List ℕ) → Result
 unfolding ofBits add sub mul div lt le ne ofInt toUnsigned toSigned round every firstFailing over flat upto littleEndian bytesOf low
-    narrow decisionValue quantisedValue lastInterval ulawOf sampleOf exponent mantissa floata srMag floatb anMag wanMag signed fmult
+    narrow decisionValue quantisedValue lastInterval ulawOf sampleOf notAbove powersNotAbove mantissa floata srMag floatb anMag wanMag
+    signed fmult
     magnitude reconst adda antilog dqOf functw filtd limb filte mix functf filta filtb difm subtc filtc triga lima speedOf sezi sei
     dqi addb sigpkOf ugb upb zerosOf fa1 fa uga2 upa2 limc uga1 upa1 limd tone thr2 trans polesOf fresh signalsOf delayed nextOf
     sampleIn codesOf decodedFrom decoded same before among lead step waits complete utf8 spaceAt trimStartBy trimStart trimEnd trim

@@ -1,6 +1,6 @@
 use native.Mathlib.Omega.{arith}
 use borrow.Author.Needs.{needs}
-use Rattle.adpcm_float.proofs.FloatLaws.{exponent-le, exponent-zeros}
+use Rattle.adpcm_float.proofs.PowerLaws.{exponent-of}
 use Rattle.adpcm_float.proofs.exponent.Statement.{statement}
 use Rattle.adpcm_float.proofs.exponent.Tie as tie
 
@@ -11,12 +11,12 @@ add-result : tie.Need-add-result
 add-result c = search needs
 
 sub-result : tie.Need-sub-result
-sub-result c = omega (arith, exponent-zeros (c .args .mag) (c .pre))
+sub-result c = omega (arith, exponent-of (c .args .mag) (c .pre) .zeros)
 
 returns : tie.Need-returns
 returns c =
-    let e = exponent-zeros (c .args .mag) (c .pre) in
-    (omega (arith, e), omega (arith, e, exponent-le 15 (c .args .mag)))
+    let e = exponent-of (c .args .mag) (c .pre) in
+    (omega (arith, e .zeros), omega (arith, e .zeros, e .most))
 
 pub exponent-spec : {M : Type 1} → statement M
 exponent-spec = tie.close (tie.spec mul-result add-result sub-result returns)
