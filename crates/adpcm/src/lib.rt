@@ -1,5 +1,7 @@
 // The decoder of ITU-T G.721 (G.726 at 32 kbit/s). A `requires` here is what `fresh` and
 // `next_of` ensure of the delays, and that a code has four bits.
+#![tactic(auto)]
+
 ghost use Rattle.std.specs.Prelude.{◌≡◌, ◌*◌, ◌<◌, ◌≤◌, length, get_or};
 ghost use Rattle.base.specs.Buffers.{over};
 ghost use Rattle.ulaw.specs.Ulaw.{ulaw_of};
@@ -7,7 +9,7 @@ ghost use Rattle.adpcm.specs.Decoder as decoder;
 ghost use Rattle.adpcm.specs.Words.{Words, SignalWords, Coding};
 
 // The delays' contents between two codes, in the Recommendation's words.
-#[derive(Drop)]
+#[derive(Clone, Copy)]
 pub struct AdpcmState {
     pub yl: u32,
     pub yu: u16,
@@ -26,7 +28,7 @@ pub struct AdpcmState {
 }
 
 // The signals of one code.
-#[derive(Drop)]
+#[derive(Clone, Copy)]
 pub struct Signals {
     pub y: u16,
     pub dq: u16,
@@ -37,7 +39,7 @@ pub struct Signals {
 }
 
 // The mu-law byte of a code, and the delays after it.
-#[derive(Drop)]
+#[derive(Clone, Copy)]
 struct Coded {
     byte: u8,
     state: AdpcmState,

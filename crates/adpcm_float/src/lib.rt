@@ -1,5 +1,7 @@
 // G.726's floating format: FLOATA, FLOATB, FMULT; and the count of powers of two that its exponents
 // are. A `requires` here is a word length that the caller's own bounds give.
+#![tactic(auto)]
+
 ghost use Rattle.std.specs.Prelude.{◌≡◌, ◌+◌, ◌*◌, ◌<◌, ◌≤◌};
 ghost use Rattle.adpcm_float.specs.Floating as block;
 ghost use Rattle.adpcm_float.specs.Powers.{powers_not_above};

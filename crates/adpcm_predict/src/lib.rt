@@ -1,11 +1,13 @@
 // G.726's adaptive predictor, tone and transition detector. A `requires` here is a word length of
 // the Recommendation's list of signals, which the caller's state keeps.
+#![tactic(auto)]
+
 ghost use Rattle.std.specs.Prelude.{◌≡◌, ◌+◌, ◌-◌, ◌%◌, ◌<◌, get_or};
 ghost use Rattle.adpcm_float.specs.Floating as floating;
 ghost use Rattle.adpcm_predict.specs.Predictor as block;
 
 // The pole coefficients and the tone detector after a code, before a transition clears them.
-#[derive(Drop)]
+#[derive(Clone, Copy)]
 pub struct Poles {
     pub a1: u16,
     pub a2: u16,

@@ -1,12 +1,14 @@
 // G.726's inverse quantizer, scale factor adaptation and speed control, at 32 kbit/s: a code has
 // four bits. A `requires` here is a word length of the Recommendation's list of signals; the
 // caller's state keeps it, and the caller has split its bytes into codes.
+#![tactic(auto)]
+
 ghost use Rattle.std.specs.Prelude.{◌≡◌, ◌-◌, ◌*◌, ◌/◌, ◌^◌, ◌<◌, ◌≤◌};
 ghost use Rattle.adpcm_scale.specs.Scale as block;
 ghost use Rattle.adpcm_scale.specs.Words.{SpeedWords};
 
 // What the speed control keeps for the next code.
-#[derive(Drop)]
+#[derive(Clone, Copy)]
 pub struct Speed {
     pub dms: u16,
     pub dml: u16,

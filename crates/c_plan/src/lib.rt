@@ -1,4 +1,5 @@
 // A call from C: what its buffers need, and the call itself; numbers and byte slices alone.
+#![tactic(auto)]
 mod planned;
 mod reports;
 

@@ -1,4 +1,6 @@
 // A call: from voice and sheet to pitch periods of samples.
+#![tactic(auto)]
+
 ghost use Rattle.std.specs.Prelude.{◌≡◌};
 ghost use Rattle.call.specs.Numbers as numbers;
 ghost use Rattle.call.specs.Call.{filter_in};
@@ -7,7 +9,7 @@ use lpc::{FilterState, ResynthType};
 use refusal::Refusal;
 
 // How the selected units are joined.
-#[derive(Drop)]
+#[derive(Clone, Copy)]
 pub enum JoinType {
     None,
     Simple,
@@ -15,13 +17,13 @@ pub enum JoinType {
 }
 
 // The filter that a call names, if it names one.
-#[derive(Drop)]
+#[derive(Clone, Copy)]
 pub enum FilterSetting {
     Unnamed,
     Named(ResynthType),
 }
 
-#[derive(Drop)]
+#[derive(Clone, Copy)]
 pub struct Settings {
     pub join: JoinType,
     pub filter: FilterSetting,
@@ -85,7 +87,7 @@ pub fn filter_in(settings: Settings) -> ResynthType
 }
 
 // How many elements each buffer of a call must have.
-#[derive(Drop)]
+#[derive(Clone, Copy)]
 pub struct Need {
     pub entries: usize,
     pub marks: usize,
@@ -96,7 +98,7 @@ pub struct Need {
 }
 
 // How many bytes each buffer lent for a call has.
-#[derive(Drop)]
+#[derive(Clone, Copy)]
 pub struct Lengths {
     pub index: usize,
     pub marks: usize,
@@ -107,7 +109,7 @@ pub struct Lengths {
 }
 
 // What a call that is not refused gives: samples per second, then how many of each.
-#[derive(Drop)]
+#[derive(Clone, Copy)]
 pub struct Summary {
     pub rate: usize,
     pub periods: usize,
@@ -118,27 +120,27 @@ pub struct Summary {
 }
 
 // What a call answers.
-#[derive(Drop)]
+#[derive(Clone, Copy)]
 pub enum Called {
     Spoken(Summary),
     Refused(Refusal),
 }
 
-#[derive(Drop)]
+#[derive(Clone, Copy)]
 pub struct Planned {
     pub answer: Called,
     pub state: FilterState,
 }
 
 // What a pull answers: how many samples it gave, or that all periods were given before it.
-#[derive(Drop)]
+#[derive(Clone, Copy)]
 pub enum Answer {
     Given(usize),
     Done,
     Refused(Refusal),
 }
 
-#[derive(Drop)]
+#[derive(Clone, Copy)]
 pub struct Pulled {
     pub answer: Answer,
     pub state: FilterState,

@@ -1,4 +1,5 @@
 // The check of a call, which writes nothing.
+#![tactic(auto)]
 ghost use Rattle.std.specs.Prelude.{◌≡◌, Bool, ◌≤◌, ◌<◌, length};
 ghost use Rattle.std.proofs.Math.Option.{none, some};
 ghost use Rattle.base.specs.Choice.{pick};
@@ -23,14 +24,14 @@ use voice::{DiphoneVoice, Opened};
 
 // A call that nothing refuses but, perhaps, its buffers: the open voice, where the sheet has its
 // lists, and what the buffers need.
-#[derive(Drop)]
+#[derive(Clone, Copy)]
 pub struct Fit {
     pub voice: DiphoneVoice,
     pub places: Places,
     pub need: Need,
 }
 
-#[derive(Drop)]
+#[derive(Clone, Copy)]
 pub enum Checked {
     Refused(Refusal),
     Passed(Fit),
@@ -38,7 +39,7 @@ pub enum Checked {
 
 // The marks of a join: how many there are, how many of them are not above the greatest target end,
 // and the last of these, 0 where there is none.
-#[derive(Drop)]
+#[derive(Clone, Copy)]
 struct Counts {
     marks: usize,
     taken: usize,
@@ -46,7 +47,7 @@ struct Counts {
 }
 
 // The marks of a join, or why they are refused.
-#[derive(Drop)]
+#[derive(Clone, Copy)]
 enum Joined {
     Refused(Refusal),
     Made(Counts),

@@ -1,4 +1,6 @@
 // The voice file's sections.
+#![tactic(auto)]
+
 ghost use Rattle.std.specs.Prelude.{◌≡◌, true, ◌+◌, ◌<◌, ◌≤◌, length, get_or, drop};
 ghost use Rattle.base.specs.Text.{ascii};
 ghost use Rattle.text.specs.Names.{same};
@@ -8,7 +10,7 @@ ghost use Rattle.container.specs.Sections as parts;
 use base::Span;
 
 // Where the data of a section stand in the file, if the file has it.
-#[derive(Drop)]
+#[derive(Clone, Copy)]
 pub enum Found {
     At(Span),
     Missing,

@@ -1,4 +1,6 @@
 // Times typed as text: the f32 that a short text stands for.
+#![tactic(auto)]
+
 ghost use Rattle.std.specs.Prelude.{◌≡◌, ◌&&◌, ◌*◌, ◌^◌, ◌≤◌, ◌<◌, length, take, drop};
 ghost use Rattle.std.specs.Float.{binary32};
 ghost use Rattle.std.specs.Float.Ieee.{round};
@@ -7,7 +9,7 @@ ghost use Rattle.decimal.specs.Decimal.{begins, after_sign, text_value};
 ghost use Rattle.decimal.specs.Reading.{DigitAt, DigitsRead, Nearest};
 
 // Digits that were read: the place after them, the number so far, and ten to the power of how many they are.
-#[derive(Drop)]
+#[derive(Clone, Copy)]
 struct Digits {
     end: usize,
     number: u64,

@@ -1,5 +1,6 @@
 // The functions that a program in C calls: numbers and byte slices alone. Each is its crate's own, under the
 // name that the archive has. `report` is the C header's `record`, which is a word of the logic.
+#![tactic(auto)]
 ghost use Rattle.std.specs.Prelude.{◌≡◌, length};
 ghost use Rattle.refusal.specs.Number.{answer_of};
 ghost use Rattle.call.specs.Numbers as numbers;

@@ -1,5 +1,7 @@
 // Whether a name stands twice in a voice's index. `entries` has the bytes after the count. A
 // `requires` here is what the caller has tested.
+#![tactic(auto)]
+
 ghost use Rattle.std.specs.Prelude.{◌≡◌, true, false, ◌<◌, ◌≤◌, length};
 ghost use Rattle.text.specs.Names.{same};
 ghost use Rattle.voice.specs.Voice.{entry_at, next_entry, entries_from, is_some};

@@ -1,4 +1,5 @@
 // Tries the edges of document 01 as it runs, most of them through whole calls and their pulls.
+#![tactic(auto)]
 mod calls;
 mod print;
 mod pulls;

@@ -49,7 +49,7 @@ module _ (v : Voice) where
   periods-longer : (u : Unit) (pace place : Float) (mark : ℕ) (ms more : List ℕ) → Heads (periods_of_marks v u pace place mark ms) (periods_of_marks v u pace place mark (ms ++ more))
   unfolding periods_of_marks
   periods-longer u pace place mark [] more = heads-nil _
-  periods-longer u pace place mark (m ∷ ms) more = heads-cons _ (periods-longer u pace _ m ms more)
+  periods-longer u pace place mark (m ∷ ms) more = heads-cons _ (periods-longer u pace (place_after_size place pace (m - mark)) m ms more)
 
   share-longer : (end_before mark : ℕ) (u : Unit) {ms ns : List ℕ} → Heads ms ns → Heads (with end_before mark u ms) (with end_before mark u ns)
   unfolding periods_of_share

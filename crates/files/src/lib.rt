@@ -1,4 +1,5 @@
 // Files that a program reads whole.
+#![tactic(auto)]
 ghost use Rattle.io.specs.Counts.{IsPrefixLen};
 
 // Reads a file to the front of a buffer, and says how many bytes: 0 where it cannot be read.

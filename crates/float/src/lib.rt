@@ -1,5 +1,7 @@
 // Casts between floats and integers as Rust's `as` has them, an f32 to the nearest integer and by its bit
 // pattern, and which of two floats is nearer. Each public function takes every value.
+#![tactic(auto)]
+
 ghost use Rattle.std.specs.Prelude.{◌≡◌, ◌*◌, ◌^◌, ◌<◌, ◌≤◌, pos, from_bits, to_bits};
 ghost use Rattle.std.specs.Float.{binary32, binary64};
 ghost use Rattle.std.specs.Float.Ieee.{of_int, to_signed, to_unsigned};

@@ -1,5 +1,7 @@
 // The index of a voice: its entries checked, and sorted in a lent buffer. `entries` has
 // the bytes after the count. A `requires` here is what the caller has tested.
+#![tactic(auto)]
+
 ghost use Rattle.std.specs.Prelude.{◌≡◌, true, ◌+◌, ◌*◌, ◌<◌, ◌≤◌, length, get_or, take};
 ghost use Rattle.base.specs.Buffers.{over};
 ghost use Rattle.text.specs.Names.{before};
@@ -12,7 +14,7 @@ ghost use Rattle.index.specs.Shuffle.{Shuffled, name_in};
 use text::Order;
 
 // The numbers of an entry: its first pitch period, and how many its two halves have.
-#[derive(Drop)]
+#[derive(Clone, Copy)]
 pub struct EntryPeriods {
     pub start: usize,
     pub first: usize,
@@ -20,7 +22,7 @@ pub struct EntryPeriods {
 }
 
 // What the index has under a name.
-#[derive(Drop)]
+#[derive(Clone, Copy)]
 pub enum FoundEntry {
     Found(EntryPeriods),
     Missing,

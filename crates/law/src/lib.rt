@@ -1,1 +1,3 @@
 // Theorems over the definitions and the contracts: demand 3.
+
+#![tactic(auto)]

@@ -1,4 +1,6 @@
 // The lines that a program prints of a call, as bytes in a lent buffer.
+#![tactic(auto)]
+
 ghost use Rattle.std.specs.Prelude.{◌≡◌, [], ◌∷◌, ◌+◌, ◌*◌, ◌/◌, ◌<◌, ◌≤◌, length};
 ghost use Rattle.base.specs.Bytes.{elements};
 ghost use Rattle.lines.specs.Lines as lines;

@@ -6,7 +6,7 @@ use native.Mathlib.Nat.{mod-lt}
 use native.Mathlib.Omega.{arith}
 use lib.IntN.{ℤ, pos, ◌*ℤ◌}
 use lib.ListN.{length, length-map}
-use lib.Ieee.{Float, of_int, to_signed, binary32}
+use lib.Ieee.{Float, add, mul, of_int, to_signed, binary32}
 use Rattle.base.specs.Words.{low}
 use Rattle.base.specs.Lists.{Heads}
 use Rattle.base.proofs.ListLaws.{heads-nil, heads-cons}
@@ -15,7 +15,7 @@ use Rattle.base.proofs.WordLaws.{low-lt}
 use Rattle.ulaw.specs.Ulaw.{sample_of}
 use Rattle.lpc.specs.declared.ResynthType.{ResynthType}
 use Rattle.lpc.specs.declared.ResynthType.TheVariants.{Fixed, Float as FloatType}
-use Rattle.lpc.specs.Filter.{Filter, Part, cut, samples, periods_from}
+use Rattle.lpc.specs.Filter.{Filter, Part, cut, back, outputs, samples, periods_from}
 use Rattle.lpc.specs.Fixed.{scaled_by, row_value, fixed_sum, divided, fixed_next, fixed_filter}
 use Rattle.lpc.specs.Floating.{float_value, float_sum, float_next, float_filter}
 use Rattle.lpc.specs.State.{periods_by}
@@ -33,7 +33,7 @@ fixed-sum acc (c ∷ cs) y z k e = rw (e k (omega arith)) (fixed-sum ((acc + (lo
 float-sum : (acc : Float) (cs : List Float) (y z : ℕ → Float) (k : ℕ) → ((j : ℕ) → j < k + length cs → y j ≡ z j) → float_sum acc cs y k ≡ float_sum acc cs z k
 unfolding float_sum
 float-sum acc [] y z k e = refl
-float-sum acc (c ∷ cs) y z k e = rw (e k (omega arith)) (float-sum _ cs y z (suc k) (λ j l. e j (omega arith)))
+float-sum acc (c ∷ cs) y z k e = rw (e k (omega arith)) (float-sum (add binary32 acc (mul binary32 c (z k))) cs y z (suc k) (λ j l. e j (omega arith)))
 
 pub fixed-causal : (least range : Float) → Causal (fixed_filter least range)
 unfolding fixed_filter fixed_next
@@ -52,12 +52,12 @@ module _ {A : Type 0} (f : Filter A) where
   pub length-samples : (row : List ℕ) (h : List A) (xs : List ℕ) → length (samples f row h xs) ≡ length xs
   unfolding samples
   length-samples row h [] = refl
-  length-samples row h (x ∷ xs) = ap suc (length-samples row _ xs)
+  length-samples row h (x ∷ xs) = ap suc (length-samples row (f.next row (back f h) x ∷ h) xs)
 
   length-periods : (h : List A) (ps : List Part) → length (periods_from f h ps) ≡ length ps
   unfolding periods_from
   length-periods h [] = refl
-  length-periods h (p ∷ ps) = ap suc (length-periods _ ps)
+  length-periods h (p ∷ ps) = ap suc (length-periods (outputs f p.row h p.bytes) ps)
 
 pub length_cut : (order : ℕ) (zs rows e : List ℕ) → length (cut order zs rows e) ≡ length zs
 unfolding cut
@@ -74,7 +74,7 @@ length-by FloatType least range ps = length-periods (float_filter least range) [
 periods-append : {A : Type 0} (f : Filter A) (h : List A) (ps qs : List Part) → Heads (periods_from f h ps) (periods_from f h (ps ++ qs))
 unfolding periods_from
 periods-append f h [] qs = heads-nil _
-periods-append f h (p ∷ ps) qs = heads-cons _ (periods-append f _ ps qs)
+periods-append f h (p ∷ ps) qs = heads-cons _ (periods-append f (outputs f p.row h p.bytes) ps qs)
 
 pub by_append : (t : ResynthType) (least range : Float) (ps qs : List Part) → Heads (periods_by t least range ps) (periods_by t least range (ps ++ qs))
 unfolding periods_by
@@ -88,12 +88,12 @@ module _ {A : Type 0} (f : Filter A) (bounded : (a : A) → f.out a < 65536) whe
   unfolding samples
   samples-low row h [] i = omega arith
   samples-low row h (x ∷ xs) zero = bounded _
-  samples-low row h (x ∷ xs) (suc i) = samples-low row _ xs i
+  samples-low row h (x ∷ xs) (suc i) = samples-low row (f.next row (back f h) x ∷ h) xs i
 
   periods-low : (h : List A) (ps : List Part) → Each (Below 65536) (periods_from f h ps)
   unfolding periods_from
   periods-low h [] = nil
-  periods-low h (p ∷ ps) = cons (samples-low p.row h p.bytes) (periods-low _ ps)
+  periods-low h (p ∷ ps) = cons (samples-low p.row h p.bytes) (periods-low (outputs f p.row h p.bytes) ps)
 
 pub by-low : (t : ResynthType) (least range : Float) (ps : List Part) → Each (Below 65536) (periods_by t least range ps)
 unfolding periods_by fixed_filter float_filter

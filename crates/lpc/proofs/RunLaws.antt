@@ -22,7 +22,7 @@ module _ {A : Type 0} (f : Filter A) (order : ℕ) (row xs : List ℕ) where
   pub length-spoken : (r : Ring A) (ys : List ℕ) → length (ring_samples f order row r ys) ≡ length ys
   unfolding ring_samples
   length-spoken r [] = refl
-  length-spoken r (y ∷ ys) = ap suc (length-spoken _ ys)
+  length-spoken r (y ∷ ys) = ap suc (length-spoken (pushed f order r (f.next row (ago f order r) y)) ys)
 
   module _ (r₀ : Ring A) (d₀ : List ℕ) where
     -- after i samples the ring is r, and the buffer d

@@ -91,9 +91,9 @@ row_read {A} g row order values z d l e =
 pub fixed-summed : (acc : ℕ) (cs : List ℤ) (y : ℕ → ℕ) (k : ℕ) → summed fixed_step acc (map (low 32) cs) y k ≡ fixed_sum acc cs y k
 unfolding summed fixed_sum
 fixed-summed acc [] y k = refl
-fixed-summed acc (c ∷ cs) y k = fixed-summed _ cs y (suc k)
+fixed-summed acc (c ∷ cs) y k = fixed-summed (fixed_step acc (low 32 c) (y k)) cs y (suc k)
 
 pub float-summed : (acc : Float) (cs : List Float) (y : ℕ → Float) (k : ℕ) → summed float_step acc cs y k ≡ float_sum acc cs y k
 unfolding summed float_sum
 float-summed acc [] y k = refl
-float-summed acc (c ∷ cs) y k = float-summed _ cs y (suc k)
+float-summed acc (c ∷ cs) y k = float-summed (float_step acc c (y k)) cs y (suc k)

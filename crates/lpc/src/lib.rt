@@ -1,10 +1,12 @@
 // The LPC synthesis filter, fixed and float, one pitch period at a time.
+#![tactic(auto)]
+
 ghost use Rattle.std.specs.Prelude.{◌≡◌, ◌≤◌};
 ghost use Rattle.lpc.specs.Ring.{place_before, place_after};
 ghost use Rattle.lpc.specs.State.{fresh_state};
 
 // Which arithmetic the filter uses.
-#[derive(Drop)]
+#[derive(Clone, Copy)]
 pub enum ResynthType {
     Fixed,
     Float,
@@ -13,7 +15,7 @@ pub enum ResynthType {
 // A filter between two periods: the number of the next period and where its excitation begins; the
 // last outputs in a ring of order + 1 places, of which `ring_place` is written next. `fixed` has the
 // ring of the fixed filter, as words, `float` that of the float filter.
-#[derive(Drop)]
+#[derive(Clone, Copy)]
 pub struct FilterState {
     pub filter: ResynthType,
     pub order: usize,

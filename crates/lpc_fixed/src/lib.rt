@@ -1,4 +1,6 @@
 // The fixed filter: words of 32 bits in two's complement.
+#![tactic(auto)]
+
 ghost use Rattle.std.specs.Prelude.{◌≡◌, ◌+◌, ◌-◌, ◌/◌, ◌≤◌, length, replicate, pos, ◌*ℤ◌, slice_index};
 ghost use Rattle.base.specs.Buffers.{over, flat, upto};
 ghost use Rattle.base.specs.Bytes.{bytes_of};

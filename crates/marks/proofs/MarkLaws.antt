@@ -75,4 +75,4 @@ module _ (v w : Voice) (n : ℕ) (g : Agree v w n) where
 pub units-within : (v : Voice) (n place : ℕ) (us : List Unit) → Within n us → Within n (natural_units v place us)
 unfolding natural_units
 units-within v n place [] i = nil
-units-within v n place (u ∷ us) (cons l m i) = cons l m (units-within v n _ us i)
+units-within v n place (u ∷ us) (cons l m i) = cons l m (units-within v n (place_after_unit v place u) us i)

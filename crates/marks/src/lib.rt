@@ -1,4 +1,6 @@
 // Pitch marks: where each output period ends, in samples.
+#![tactic(auto)]
+
 pub mod natural;
 
 ghost use Rattle.std.specs.Prelude.{◌≡◌, ◌+◌, ◌<◌, ◌≤◌, true, false, length, take};
@@ -21,14 +23,14 @@ pub const MOST_MARKS: usize = 65536;
 
 // How many marks there are, how many of them are taken, and the last one taken, 0 where there is
 // none; or why they are refused.
-#[derive(Drop)]
+#[derive(Clone, Copy)]
 pub enum CheckedMarks {
     Refused(Refusal),
     Made(usize, usize, usize),
 }
 
 // The place after a unit and how many marks are still allowed, or why its marks are refused.
-#[derive(Drop)]
+#[derive(Clone, Copy)]
 pub enum UnitMarks {
     Refused(Refusal),
     To(usize, usize),
@@ -36,7 +38,7 @@ pub enum UnitMarks {
 
 // How many marks there are, how many of them are taken, and the last one taken; the next one may be
 // taken while this is `taking`.
-#[derive(Drop)]
+#[derive(Clone, Copy)]
 struct Tally {
     taking: bool,
     count: usize,
@@ -47,7 +49,7 @@ struct Tally {
 // Where the making of pitch marks stands. The pitch goes from `base` at the time `from` by `slope`,
 // in Hz per second, to the target at `position`, which counts `f0`; marks are made on the way if
 // `climbs`. `left` marks are still allowed; `targets` more targets stand in the sheet from `at` on.
-#[derive(Drop)]
+#[derive(Clone, Copy)]
 struct Walk {
     rate: f64,
     time: f64,
@@ -63,7 +65,7 @@ struct Walk {
 }
 
 // What comes next: a mark, the refusal that ends the marks, or no mark more.
-#[derive(Drop)]
+#[derive(Clone, Copy)]
 enum Event {
     Mark(usize),
     Refused(Refusal),
@@ -71,14 +73,14 @@ enum Event {
 }
 
 // What came next, and the walk after it.
-#[derive(Drop)]
+#[derive(Clone, Copy)]
 struct Step {
     event: Event,
     walk: Walk,
 }
 
 // The walk with the next mark on its way, or how the marks end.
-#[derive(Drop)]
+#[derive(Clone, Copy)]
 enum Settled {
     OnWay(Walk),
     Refused(Refusal),
@@ -86,7 +88,7 @@ enum Settled {
 }
 
 // The walk on the way to a target, or why it is refused.
-#[derive(Drop)]
+#[derive(Clone, Copy)]
 enum Aimed {
     Refused(Refusal),
     To(Walk),

@@ -1,4 +1,6 @@
 // Opening a voice file.
+#![tactic(auto)]
+
 ghost use Rattle.std.specs.Prelude.{◌≡◌, true, length};
 ghost use Rattle.base.specs.Lists.{first_failing};
 ghost use Rattle.base.specs.Buffers.{over};

@@ -1,4 +1,6 @@
 // Whether the pairs of a sheet find names that they try.
+#![tactic(auto)]
+
 ghost use Rattle.std.specs.Prelude.{◌≡◌};
 ghost use Rattle.voice.specs.Voice.{voice_of};
 ghost use Rattle.sheet.specs.Sheet.{sheet_of};

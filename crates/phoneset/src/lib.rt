@@ -1,11 +1,13 @@
 // The phones of US English, and whether one is a vowel.
+#![tactic(auto)]
+
 ghost use Rattle.std.specs.Prelude.{◌≡◌};
 ghost use Rattle.text.specs.Names.{among};
 ghost use Rattle.phoneset.specs.Phones as phones;
 ghost use Rattle.phoneset.specs.Words.{words};
 
 // A phone's feature `vc`: `+` for a vowel, `-` for another phone, `0` for a name that is no phone.
-#[derive(Drop)]
+#[derive(Clone, Copy)]
 pub enum Vc {
     Plus,
     Minus,

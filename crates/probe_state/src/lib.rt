@@ -1,5 +1,7 @@
 // The G.721 decoder's delays, exported so that the comparison with the Rust can read them. They are
 // not in `probe`: a second caller of the decoder's steps would keep them from being inlined there.
+#![tactic(auto)]
+
 ghost use Rattle.std.specs.Prelude.{◌≡◌, ◌*◌, ◌≤◌, length};
 ghost use Rattle.adpcm.specs.Decoder.{codes_of, state_at};
 

@@ -1,5 +1,6 @@
 // Makes stored calls and compares their texts with those that the Rust's answers made. data/README tells
 // what is in the file `calls`, and its format.
+#![tactic(auto)]
 ghost use Rattle.std.specs.Prelude.{◌≡◌, ◌<◌, ◌≤◌, length, get_or};
 ghost use Rattle.text.specs.Names.{same};
 ghost use Rattle.lines.specs.Lines.{Puts};
@@ -18,7 +19,7 @@ const LAST_KIND: usize = 22;
 
 // How many calls there were, how many of them disagree, the number of the first of those, how many stored
 // texts there were of each kind (0 spoken, n refused n), and how many periods these have.
-#[derive(Drop)]
+#[derive(Clone, Copy)]
 struct Tally {
     calls: usize,
     wrong: usize,
@@ -225,7 +226,7 @@ fn periods_in(text: &[u8]) -> usize
 
 // What the file has next: its end, something else than a call, or a call, with the length of its voice,
 // its text's kind and periods, and whether it agrees.
-#[derive(Drop)]
+#[derive(Clone, Copy)]
 enum Found {
     End,
     Damaged,

@@ -1,5 +1,6 @@
 // The second program: makes the call of the first, speak, with the same files, settings and lengths of
 // buffers, and prints a line for each period, or why the call is refused.
+#![tactic(auto)]
 ghost use Rattle.std.specs.Prelude.{◌≡◌, ◌≤◌, length};
 ghost use Rattle.std.proofs.Math.Option.{none};
 ghost use Rattle.io.specs.Counts.{IsPrefixLen};

@@ -1,5 +1,6 @@
 // The period report of a call: for each taken period the pair and the half of the unit that took its
 // mark, its first sample and its size.
+#![tactic(auto)]
 ghost use Rattle.std.specs.Prelude.{◌≡◌, ◌*◌, ◌+◌, ◌≤◌, length};
 ghost use Rattle.std.proofs.lemmas.List.Edits.{sets};
 ghost use Rattle.base.specs.Buffers.{over, flat};
@@ -19,14 +20,14 @@ use sheet::SheetAnswer;
 use units::{Held, Selection, Unit};
 
 // How many lines a report has, or why it is refused.
-#[derive(Drop)]
+#[derive(Clone, Copy)]
 pub enum Reported {
     Refused(Refusal),
     Made(usize),
 }
 
 // How far the marks of a call are reported: how many of them, and the last one, 0 before the first.
-#[derive(Drop)]
+#[derive(Clone, Copy)]
 struct Reached {
     taken: usize,
     mark: usize,

@@ -1,5 +1,7 @@
 // The entries of a voice's index by their names: with the filled index, or without it. `entries` has
 // the bytes after the count. A `requires` here is what the caller has tested.
+#![tactic(auto)]
+
 ghost use Rattle.std.specs.Prelude.{◌≡◌, true, ◌≤◌, ◌<◌, length, drop};
 ghost use Rattle.base.specs.Choice.{pick};
 ghost use Rattle.text.specs.Names.{before};

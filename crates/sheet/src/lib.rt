@@ -1,5 +1,7 @@
 // The call sheet: segments with their ends, pitch targets. A reader takes the sheet and a place in
 // it, and answers what stands there and the place after it.
+#![tactic(auto)]
+
 ghost use Rattle.std.specs.Prelude.{◌≡◌, ◌+◌, ◌^◌, ◌≤◌, true, length, drop};
 ghost use Rattle.refusal.specs.Number.{answer_of};
 ghost use Rattle.sheet.specs.Sheet as sheets;
@@ -12,7 +14,7 @@ use base::Span;
 use refusal::Refusal;
 
 // A value of the sheet: a whole number, a float, or absent.
-#[derive(Drop)]
+#[derive(Clone, Copy)]
 pub enum Value {
     Int(i32),
     Float(f32),
@@ -21,7 +23,7 @@ pub enum Value {
 
 // A phone: where its name stands in the sheet, where it ends in seconds, and the number from 1 of
 // the segment next in the syllable, or 0.
-#[derive(Drop)]
+#[derive(Clone, Copy)]
 pub struct Segment {
     pub name: Span,
     pub end: Value,
@@ -29,7 +31,7 @@ pub struct Segment {
 }
 
 // A pitch target: a time in seconds, and the pitch there in Hz.
-#[derive(Drop)]
+#[derive(Clone, Copy)]
 pub struct Target {
     pub pos: Value,
     pub f0: Value,
@@ -38,77 +40,77 @@ pub struct Target {
 // What the reader answers at a place: why it is refused, or what was read and the place after it.
 
 // A number that was read, and the place after it.
-#[derive(Drop)]
+#[derive(Clone, Copy)]
 enum GotNumber {
     Refused(Refusal),
     Read(usize, usize),
 }
 
 // Where a name stands that was read; the place after it is its end.
-#[derive(Drop)]
+#[derive(Clone, Copy)]
 enum GotName {
     Refused(Refusal),
     Read(Span),
 }
 
 // A value that was read, and the place after it.
-#[derive(Drop)]
+#[derive(Clone, Copy)]
 enum GotValue {
     Refused(Refusal),
     Read(Value, usize),
 }
 
 // A segment that was read, and the place after it.
-#[derive(Drop)]
+#[derive(Clone, Copy)]
 enum GotSegment {
     Refused(Refusal),
     Read(Segment, usize),
 }
 
 // A target that was read, and the place after it.
-#[derive(Drop)]
+#[derive(Clone, Copy)]
 enum GotTarget {
     Refused(Refusal),
     Read(Target, usize),
 }
 
 // Segments, or targets: how many, and the place of the first.
-#[derive(Drop)]
+#[derive(Clone, Copy)]
 pub struct Items {
     pub count: usize,
     pub at: usize,
 }
 
 // Segments, or targets, that were read, and the place after them.
-#[derive(Drop)]
+#[derive(Clone, Copy)]
 enum GotItems {
     Refused(Refusal),
     Read(Items, usize),
 }
 
 // Where a sheet has its segments and its targets.
-#[derive(Drop)]
+#[derive(Clone, Copy)]
 pub struct Places {
     pub segments: Items,
     pub targets: Items,
 }
 
 // A segment of a sheet that was read, and the place after it.
-#[derive(Drop)]
+#[derive(Clone, Copy)]
 pub struct SegmentStep {
     pub segment: Segment,
     pub next: usize,
 }
 
 // A target of a sheet that was read, and the place after it.
-#[derive(Drop)]
+#[derive(Clone, Copy)]
 pub struct TargetStep {
     pub target: Target,
     pub next: usize,
 }
 
 // A sheet that was read, or why it is refused.
-#[derive(Drop)]
+#[derive(Clone, Copy)]
 pub enum SheetAnswer {
     Refused(Refusal),
     Read(Places),

@@ -1,6 +1,8 @@
 // A sparse index: the places of every so manieth entry of an index whose names are in order, eight
 // bytes each. `entries` has the bytes after the count. A `requires` here is what the caller has
 // tested.
+#![tactic(auto)]
+
 ghost use Rattle.std.specs.Prelude.{◌≡◌, true, ◌*◌, ◌/◌, ◌<◌, ◌≤◌, length, drop};
 ghost use Rattle.voice.specs.Voice.{entries_from, sort};
 ghost use Rattle.voice.specs.Voice as voices;
@@ -11,7 +13,7 @@ use index::{EntryPeriods, FoundEntry};
 use text::Order;
 
 // How many entries lie from one place of a sparse index to the next, and how many places it has.
-#[derive(Drop)]
+#[derive(Clone, Copy)]
 pub struct Spacing {
     pub stride: usize,
     pub count: usize,

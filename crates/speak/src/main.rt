@@ -1,5 +1,6 @@
 // Document 01's program: speaks the sheet call.sht with the voice voice.flv, by the simple join, the
 // fixed filter and no fold, and prints rate, periods and samples, or why it is refused.
+#![tactic(auto)]
 ghost use Rattle.std.specs.Prelude.{◌≤◌, length};
 ghost use Rattle.io.specs.Counts.{IsPrefixLen};
 ghost use Rattle.lines.specs.Lines.{Puts};

@@ -1,5 +1,7 @@
 // What a unit takes: for each of its marks a pitch period, with its size, its row and its window of
 // the excitation.
+#![tactic(auto)]
+
 ghost use Rattle.std.specs.Prelude.{◌≡◌, min, max, ◌+◌, ◌-◌, ◌*◌, ◌/◌, ◌≤◌, ◌<◌, length, take, drop};
 ghost use Rattle.std.proofs.lemmas.List.Edits.{sets};
 ghost use Rattle.base.specs.Buffers.{over, flat};
@@ -18,7 +20,7 @@ use voice::{Codec, DiphoneVoice};
 
 // How far the periods of a call are taken: how many, the last mark taken (0 before the first), and
 // the period whose decoded bytes the decode buffer's front holds, the voice's frames where none.
-#[derive(Drop)]
+#[derive(Clone, Copy)]
 pub struct Progress {
     pub taken: usize,
     pub mark: usize,

@@ -1,4 +1,6 @@
 // Names: UTF-8, white space around them, their order.
+#![tactic(auto)]
+
 pub mod trim;
 
 ghost use Rattle.std.specs.Prelude.{◌≡◌, ◌≤◌, eqb, length, drop};
@@ -8,7 +10,7 @@ ghost use Rattle.text.specs.Utf8 as utf8s;
 
 // Between two bytes of a text: how many bytes the character still needs, and the bounds of the next
 // of them; or the text is not UTF-8.
-#[derive(Drop)]
+#[derive(Clone, Copy)]
 pub enum Wait {
     Bad,
     Next(u8, u8, u8),
@@ -106,7 +108,7 @@ pub fn utf8(s: &[u8]) -> bool
 }
 
 // How one name stands to another in the order by bytes.
-#[derive(Drop)]
+#[derive(Clone, Copy)]
 pub enum Order {
     Before,
     Same,

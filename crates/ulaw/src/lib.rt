@@ -1,4 +1,6 @@
 // The mu-law of ITU-T G.711 on 16-bit samples.
+#![tactic(auto)]
+
 ghost use Rattle.std.specs.Prelude.{◌≡◌, ◌≤◌, ◌<◌, nat_abs};
 ghost use Rattle.ulaw.specs.Ulaw.{sample_of, ulaw_of, last_interval};
 

@@ -227,6 +227,7 @@ module _ (file : List ℕ) (bytes : Bytes file) where
       each-short bs (below-part 256 (omega arith) file d.entries.at d.entries.len bytes) _ (each-stored bs d.count 0)
 
   stands-short : (ps : List Placed) → Each IsShortPlaced ps → (e : Entry) → Stands e ps → IsShort e
+  stands-short [] _ e x = elim x [ ]
   stands-short (p ∷ ps) (cons h k) e (here q) = subst IsShort (sym q) h
   stands-short (p ∷ ps) (cons h k) e (there m) = stands-short ps k e m
 

@@ -1,4 +1,6 @@
 // The units of a call: half a diphone each, stretched to a target end.
+#![tactic(auto)]
+
 pub mod ends;
 pub mod followers;
 pub mod holding;
@@ -19,7 +21,7 @@ pub const LIMIT: usize = 16777215;
 
 // A unit: its first pitch period, the period after its last, where it should end, in output samples,
 // its pair's number, from 1, and which half of the pair it is, 1 or 2.
-#[derive(Drop)]
+#[derive(Clone, Copy)]
 pub struct Unit {
     pub first_period: usize,
     pub last_period: usize,
@@ -44,21 +46,21 @@ impl Unit {
 }
 
 // The two units of a pair of phones.
-#[derive(Drop)]
+#[derive(Clone, Copy)]
 pub struct UnitPair {
     pub first: Unit,
     pub second: Unit,
 }
 
 // Where the two units of a pair should end.
-#[derive(Drop)]
+#[derive(Clone, Copy)]
 pub struct TargetEnds {
     pub first: usize,
     pub second: usize,
 }
 
 // The greatest target end of some units, 0 where there is none; or one is above the limit.
-#[derive(Drop)]
+#[derive(Clone, Copy)]
 pub enum CheckedEnds {
     PastLimit,
     Fit(usize),
@@ -66,7 +68,7 @@ pub enum CheckedEnds {
 
 // A walk over the pairs of a sheet: the left segment of the next pair, the place of the right one,
 // and how many segments are still to come.
-#[derive(Drop)]
+#[derive(Clone, Copy)]
 pub struct PairWalk {
     pub left: Segment,
     pub next: usize,
@@ -74,14 +76,14 @@ pub struct PairWalk {
 }
 
 // The units of a pair, and the walk after it.
-#[derive(Drop)]
+#[derive(Clone, Copy)]
 pub struct PairStep {
     pub units: UnitPair,
     pub walk: PairWalk,
 }
 
 // A walk over units: that over the pairs, and between the two units of a pair the second.
-#[derive(Drop)]
+#[derive(Clone, Copy)]
 pub struct UnitWalk {
     pub pairs: PairWalk,
     pub second: Unit,
@@ -89,7 +91,7 @@ pub struct UnitWalk {
 }
 
 // A unit, and the walk after it.
-#[derive(Drop)]
+#[derive(Clone, Copy)]
 pub struct UnitStep {
     pub unit: Unit,
     pub walk: UnitWalk,
@@ -97,7 +99,7 @@ pub struct UnitStep {
 
 // What an index buffer holds: nothing of use, the sorted index of a voice, or a sparse index, where
 // the voice's entries are in order.
-#[derive(Drop)]
+#[derive(Clone, Copy)]
 pub enum Held {
     Nothing,
     Sorted,
@@ -106,7 +108,7 @@ pub enum Held {
 
 // What units are selected by: an open voice, what the index buffer beside it holds, where the sheet
 // has its segments, and whether `ah` is folded.
-#[derive(Drop)]
+#[derive(Clone, Copy)]
 pub struct Selection {
     pub voice: DiphoneVoice,
     pub held: Held,

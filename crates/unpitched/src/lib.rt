@@ -1,1 +1,3 @@
 // Theorems: a target without a pitch, and the marks of a sheet that begins another.
+
+#![tactic(auto)]

@@ -1,4 +1,5 @@
 // Compares mu-law and the G.721 decoder with vectors that other implementations made.
+#![tactic(auto)]
 ghost use Rattle.std.specs.Prelude.{◌≡◌, ◌+◌, ◌*◌, ◌/◌, ◌%◌, ◌<◌, ◌≤◌, eqb, length};
 ghost use Rattle.base.specs.Bytes.{u16_at};
 ghost use Rattle.base.specs.Choice.{pick};
@@ -11,7 +12,7 @@ use libc::STDOUT_FILENO;
 // ---- counting
 
 // How many were compared, how many of them disagree, and how many agree before the first of those.
-#[derive(Drop)]
+#[derive(Clone, Copy)]
 struct Tally {
     compared: usize,
     wrong: usize,

@@ -32,6 +32,7 @@ lookup-finds n (p ∷ ps) e q = by (same p.entry.name n) refl q (lookup-finds n 
 -- where no name stands twice, what stands is found by its name
 pub stands-found : (ps : List Placed) → distinct ps ≡ true → (e : Entry) → Stands e ps → lookup e.name ps ≡ some e
 unfolding lookup distinct
+stands-found [] u e x = elim x [ ]
 stands-found (p ∷ ps) u e (here q) = rw (q, same_refl p.entry.name)
 stands-found (p ∷ ps) u e (there m) = by (same p.entry.name e.name) refl (stands-found ps (and_right (not (is_some (lookup p.entry.name ps))) (distinct ps) u) e m)
   where
@@ -47,5 +48,6 @@ stands-found (p ∷ ps) u e (there m) = by (same p.entry.name e.name) refl (stan
 -- its periods end within the frames
 pub stands-within : (n : ℕ) (ps : List Placed) → within_frames n ps ≡ true → (e : Entry) → Stands e ps → end_period e ≤ n
 unfolding within_frames
+stands-within n [] w e x = elim x [ ]
 stands-within n (p ∷ ps) w e (here q) = rw q (leb-true _ _ (and_left (leb (end_period p.entry) n) (within_frames n ps) w))
 stands-within n (p ∷ ps) w e (there m) = stands-within n ps (and_right (leb (end_period p.entry) n) (within_frames n ps) w) e m

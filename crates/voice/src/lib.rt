@@ -1,4 +1,6 @@
 // A diphone voice: its header, its tables and its index.
+#![tactic(auto)]
+
 pub mod header;
 pub mod periods;
 pub mod sections;
@@ -9,14 +11,14 @@ use container::Found;
 use refusal::Refusal;
 
 // How a voice stores the residual of a pitch period.
-#[derive(Drop)]
+#[derive(Clone, Copy)]
 pub enum Codec {
     Ulaw,
     G721,
 }
 
 // `sts.header`, field by field.
-#[derive(Drop)]
+#[derive(Clone, Copy)]
 pub struct VoiceHeader {
     pub frames: u32,
     pub order: u32,
@@ -32,7 +34,7 @@ pub struct VoiceHeader {
 
 // An open voice: its header, and where its tables stand in the file. `entries` has the index after
 // its count.
-#[derive(Drop)]
+#[derive(Clone, Copy)]
 pub struct DiphoneVoice {
     pub header: VoiceHeader,
     pub lpc: Span,
@@ -44,7 +46,7 @@ pub struct DiphoneVoice {
 }
 
 // What opening a voice file answers.
-#[derive(Drop)]
+#[derive(Clone, Copy)]
 pub enum Opened {
     Open(DiphoneVoice),
     Refused(Refusal),

@@ -1,1 +1,3 @@
 // Whole calls, computed over the definitions.
+
+#![tactic(auto)]

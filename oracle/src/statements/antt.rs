@@ -9,17 +9,17 @@ use std::fmt::Display;
 /// The head of a file of statements, for a crate that uses crate `worked`.
 pub const HEAD: &str = "\
 -- Calls with what the Rust, or document 01 where it refuses them, makes of them. Written by `oracle statements`.
-use mathlib.Core.Path.{_≡_, refl}
+use mathlib.Core.Path.{◌≡◌, refl}
 use mathlib.Core.Bool.{true, false}
-use mathlib.Core.List.{List, [], _∷_}
+use mathlib.Core.List.{List, [], ◌∷◌}
 use Prim.Native.Nat.{ℕ}
 use lib.IntN.{pos, negsuc}
-use Rattle·lpc.specs.declared.ResynthType.the-variants.{Fixed, Float}
-use Rattle·call.specs.declared.FilterSetting.the-variants.{Unnamed, Named}
-use Rattle·call.specs.declared.JoinType.the-variants.{None, Simple, ModifiedLpc}
-use Rattle·call.specs.declared.Settings.{Settings}
-use Rattle·call.specs.Buffers.{Buffers}
-use Rattle·worked.specs.Tried.{tried}
+use Rattle.lpc.specs.declared.ResynthType.TheVariants.{Fixed, Float}
+use Rattle.call.specs.declared.FilterSetting.TheVariants.{Unnamed, Named}
+use Rattle.call.specs.declared.JoinType.TheVariants.{None, Simple, ModifiedLpc}
+use Rattle.call.specs.declared.Settings.{Settings}
+use Rattle.call.specs.Buffers.{Buffers}
+use Rattle.worked.specs.Tried.{tried}
 ";
 
 /// One statement with all that it names.

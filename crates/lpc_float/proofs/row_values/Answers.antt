@@ -1,0 +1,21 @@
+use Rattle.std.proofs.Common.{◌≡◌, ◌/◌, ◌<◌, length, replicate, arith}
+use lib.Ieee.{of_bits}
+use Rattle.base.proofs.BufferLaws.{stored-none, stored_more}
+use Rattle.lpc_float.specs.Values.{zero32}
+use Rattle.lpc_float.proofs.row_values.Goals as goal
+
+pub loop-k-init : goal.loop-k-init
+unfolding of_bits
+loop-k-init c = (omega arith, stored-none _ 0 _)
+
+pub loop-k-preserved : goal.loop-k-preserved
+loop-k-preserved c =
+    let l = c.loop-k in
+    let k : l.k < 32 = omega arith in
+    (omega arith, rw (l.invariant.1, c.row_value.ensures, c.u16_at-q.ensures) (stored_more _ l.k (replicate 32 zero32) k))
+
+pub returns : goal.returns
+returns c =
+    let l = c.loop-k in
+    let e : l.k ≡ length c.args.row.now / 2 = omega arith in
+    rw (← e) l.invariant.1

@@ -1,0 +1,19 @@
+use Rattle.std.proofs.Common.{ap, arith}
+use Rattle.sheet.specs.Sheet.{segment}
+use Rattle.sheet.specs.Answers.{segment_says}
+use Rattle.sheet.proofs.ItemLaws.{skip_first, skip-refused, skip-on, skip-done}
+use Rattle.sheet.proofs.skip_segments.Goals as goal
+
+pub loop-left-init : goal.loop-left-init
+loop-left-init c = skip_first _ _ _ _ _ c.requires
+
+pub returns-in-Refused : goal.returns-in-Refused
+returns-in-Refused c =
+    skip-refused _ _ _ _ _ _ _ c.loop-left.invariant (λ e. omega arith) c.read_segment.ensures (ap segment_says c.in-Refused.is)
+
+pub loop-left-preserved : goal.loop-left-preserved
+loop-left-preserved c =
+    skip-on _ _ _ _ _ _ _ c.loop-left.invariant (λ e. omega arith) c.read_segment.ensures (ap segment_says c.in-Read.is)
+
+pub returns : goal.returns
+returns c = skip-done _ _ _ _ _ _ _ c.loop-left.invariant (omega arith)
