@@ -172,16 +172,22 @@ class Install(unittest.TestCase):
             self.assertEqual(calls.read_text(), "-q update\n-q install -y flite1-dev\n")
 
 
-# A stand-in for rt: notes how it was called, and makes what it should.
+# A stand-in for rt: notes where and how it was called, and makes what it should.
 RT = """#!/bin/sh
-echo "$@" >>calls
-echo "rt: base proved (4 s)"
-[ -f fail ] && { echo "rt: FAILED: diphone"; exit 1; }
-echo "rt: diphone proved (unchanged since it was last proved)"
-[ "$1" = staticlib ] || exit 0
-mkdir -p target/staticlib
-echo new >target/staticlib/libdiphone_c.a
-echo "rt: target/staticlib/libdiphone_c.a has the functions of diphone_c"
+echo "${PWD##*/} $*" >>../../calls
+echo "rt: chose --jobs 2 for base"
+echo "fn base::one: proved"
+echo "logic=proved functions=1 native=nat,char,string"
+[ -f ../../fail ] && { echo "rt: the library diphone did not build, so nothing above it was checked" >&2; exit 1; }
+echo "rt: chose --jobs 2 for diphone_c_c"
+echo "logic=proved functions=1 target=x86_64-unknown-linux-gnu"
+mkdir -p out
+echo new >out/libdiphone_c_c.a
+"""
+# A stand-in for date: four seconds later at each call.
+DATE = """#!/bin/sh
+now=$(($(cat "$0.now" 2>/dev/null || echo 0) + 4))
+echo $now | tee "$0.now"
 """
 
 
@@ -193,14 +199,16 @@ class Archive(unittest.TestCase):
         self.root = Path(folder.name) / "with a blank"
         (self.root / "tools").mkdir(parents=True)
         shutil.copy(REPO / "tools/archive", self.root / "tools/archive")
-        (self.root / "crates.txt").write_text("# A crate.\nbase:\nother: base\ndiphone: base\ndiphone_c: diphone\n")
-        for name in ("base", "other", "diphone", "diphone_c"):
+        lines = "# A crate.", "base:", "other: base", "diphone: base", "diphone_c_c staticlib: diphone"
+        (self.root / "crates.txt").write_text("\n".join(lines) + "\n")
+        for name in ("base", "other", "diphone", "diphone_c_c"):
             (self.root / "crates" / name / "src").mkdir(parents=True)
             (self.root / "crates" / name / "src/lib.rt").touch()
         self.rt = self.root / "bin/rt"
         self.rt.parent.mkdir()
-        self.rt.write_text(RT)
-        self.rt.chmod(0o755)
+        for path, text in ((self.rt, RT), (self.rt.with_name("date"), DATE)):
+            path.write_text(text)
+            path.chmod(0o755)
 
     def make(self, *words, rt=True):
         path = "/usr/bin:/bin"
@@ -214,18 +222,18 @@ class Archive(unittest.TestCase):
         return found
 
     def test_first_use(self):
-        """Dependencies first, on all processors, then the archive; a line for each crate."""
+        """Dependencies first, then the archive; a line for each crate."""
         self.assertEqual(self.make("--check")[0], 1)
         status, text, message = self.make()
-        self.assertEqual((status, text, self.calls()), (0, b"", ["check diphone", "staticlib diphone_c"]))
-        lines = ["base: 4 s", "diphone: proved before", "diphone_c: proved, and made into the archive"]
+        self.assertEqual((status, text, self.calls()), (0, b"", ["diphone_c_c lib"]))
+        lines = ["base: 4 s", "diphone: proved before", "diphone_c_c: proved, and made into the archive"]
         self.assertEqual(message.splitlines()[1:], [f"{number} of 3 {line}" for number, line in enumerate(lines, 1)])
         self.assertEqual((self.make("--check")[0], self.make(), self.calls()), (0, (0, b"", ""), []))
 
     def test_never_older(self):
         self.make()
         archive = self.root / "target/staticlib/libdiphone_c.a"
-        for name, made in (("base", True), ("other", False), ("diphone_c", True)):
+        for name, made in (("base", True), ("other", False), ("diphone_c_c", True)):
             self.calls()
             os.utime(archive, (1, 1))
             for path in self.root.glob("crates/*/src/lib.rt"):
@@ -243,7 +251,7 @@ class Archive(unittest.TestCase):
         (self.root / "fail").touch()
         status, text, message = self.make()
         self.assertEqual((status, text), (1, b""))
-        self.assertIn("rt: FAILED: diphone\n", message)
+        self.assertIn("rt: the library diphone did not build, so nothing above it was checked\n", message)
         self.assertIn("archive: no archive was made", message)
 
 

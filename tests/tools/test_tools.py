@@ -880,7 +880,7 @@ text: base
 # Above.
 voice: base text
 index: base text voice
-other: base io
+other staticlib: base io
 """
 
 
@@ -920,7 +920,7 @@ class Pages(unittest.TestCase):
         inner = {tuple(line.split("/")[1::2]) for line in run("believed", "--inner")[1].split()}
         self.assertIn(("lpc_fixed", "Values.antt"), inner)
         self.assertFalse({(crate, f"{module}.antt") for crate, module in reached} & inner)
-        source = "ghost use Rattle·a.specs.One.{first, second};\nghost use Rattle·b·specs.specs.Two as two;\n"
+        source = "ghost use Rattle.a.specs.One.{first, second};\nghost use Rattle.b.specs.Two as two;\nghost use Rattle.std.specs.Three.{second};\n"
         cited = TOOLS["believed"].cited
         self.assertEqual(list(cited(source, "pub fn f() ensures { second }\n{")), [("a", "One")])
         self.assertEqual(list(cited(source, "ensures { two.third }")), [("b", "Two")])

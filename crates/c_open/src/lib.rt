@@ -1,6 +1,7 @@
 // Opening a voice file from C: numbers and byte slices alone. `report` is the C header's `record`,
 // which is a word of the logic.
 #![tactic(auto)]
+
 ghost use Rattle.std.specs.Prelude.{◌≡◌, ◌≤◌, length};
 ghost use Rattle.std.proofs.Math.Option.{some};
 ghost use Rattle.base.specs.Lists.{or_next};

@@ -1,5 +1,6 @@
 // A call from C: what its buffers need, and the call itself; numbers and byte slices alone.
 #![tactic(auto)]
+
 mod planned;
 mod reports;
 

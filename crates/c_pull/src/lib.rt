@@ -1,5 +1,6 @@
 // A pull from C: numbers and byte slices alone.
 #![tactic(auto)]
+
 ghost use Rattle.std.specs.Prelude.{◌≡◌};
 ghost use Rattle.call.specs.Pull.{lent_of};
 ghost use Rattle.c_pull.specs.Pull as pulls;

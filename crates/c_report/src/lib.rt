@@ -1,5 +1,6 @@
 // The period report from C: numbers and byte slices alone.
 #![tactic(auto)]
+
 ghost use Rattle.std.specs.Prelude.{◌≡◌, length};
 ghost use Rattle.call.specs.Numbers as numbers;
 ghost use Rattle.refusal.specs.Number.{answer_of};

@@ -1,5 +1,6 @@
 // A call, and its pulls: one pitch period of samples at a time.
 #![tactic(auto)]
+
 ghost use Rattle.std.specs.Prelude.{◌≡◌};
 ghost use Rattle.refusal.specs.Number.{answer_of};
 ghost use Rattle.call.specs.Buffers as calls;

@@ -1,6 +1,7 @@
-// The functions that a program in C calls: numbers and byte slices alone. Each is its crate's own, under the
-// name that the archive has. `report` is the C header's `record`, which is a word of the logic.
+// The functions that a program in C calls, by way of `diphone_c_c`: numbers and byte slices alone. Each is its
+// crate's own, under the name that the archive has. `report` is the C header's `record`, which is a word of the logic.
 #![tactic(auto)]
+
 ghost use Rattle.std.specs.Prelude.{◌≡◌, length};
 ghost use Rattle.refusal.specs.Number.{answer_of};
 ghost use Rattle.call.specs.Numbers as numbers;
@@ -11,8 +12,7 @@ ghost use Rattle.c_plan.specs.Plan as plans;
 ghost use Rattle.c_pull.specs.Pull as pulls;
 
 // Opens a voice file: 0, or the number of the refusal.
-#[unsafe(no_mangle)]
-pub extern "C" fn diphone_open(voice: &[u8], index: &mut [u8], report: &mut [u8]) -> u32
+pub fn diphone_open(voice: &[u8], index: &mut [u8], report: &mut [u8]) -> u32
     ensures { (result ≡ answer_of
         (opens.refusal_of_open voice.now (length index.old) (length report.old))) ×
         ((index.new ≡ opens.index_left voice.now index.old
@@ -24,8 +24,7 @@ pub extern "C" fn diphone_open(voice: &[u8], index: &mut [u8], report: &mut [u8]
 }
 
 // How long each buffer of a call must be: 0, or the number of the refusal.
-#[unsafe(no_mangle)]
-pub extern "C" fn diphone_need(voice: &[u8], sheet: &[u8], settings: u32, need: &mut [u8]) -> u32
+pub fn diphone_need(voice: &[u8], sheet: &[u8], settings: u32, need: &mut [u8]) -> u32
     ensures value { result ≡ answer_of
         (plans.refusal_of_need voice.now sheet.now (numbers.settings_of settings)
         (length need.old)) }
@@ -36,8 +35,7 @@ pub extern "C" fn diphone_need(voice: &[u8], sheet: &[u8], settings: u32, need: 
 }
 
 // Makes a call: 0, or the number of the refusal.
-#[unsafe(no_mangle)]
-pub extern "C" fn diphone_plan(
+pub fn diphone_plan(
     voice: &[u8],
     sheet: &[u8],
     settings: u32,
@@ -66,8 +64,7 @@ pub extern "C" fn diphone_plan(
 }
 
 // Makes the report of a call: 0, or the number of the refusal.
-#[unsafe(no_mangle)]
-pub extern "C" fn diphone_report(voice: &[u8], sheet: &[u8], settings: u32, lines: &mut [u8]) -> u32
+pub fn diphone_report(voice: &[u8], sheet: &[u8], settings: u32, lines: &mut [u8]) -> u32
     ensures value { result ≡ answer_of
         (reports.refusal_of_report voice.now sheet.now (numbers.settings_of settings)
         (length lines.old)) }
@@ -78,8 +75,7 @@ pub extern "C" fn diphone_report(voice: &[u8], sheet: &[u8], settings: u32, line
 }
 
 // Pulls the next period: how many samples it gave, -1 for done, or minus the number of the refusal.
-#[unsafe(no_mangle)]
-pub extern "C" fn diphone_pull(
+pub fn diphone_pull(
     state: &mut [u8],
     sizes: &[u8],
     rows: &[u8],

@@ -13,14 +13,14 @@ use Rattle.text.specs.Names.{same}
 use Rattle.text.proofs.NameLaws.{same-eq, same_refl}
 use Rattle.voice.specs.Voice.{Placed, entry_at, next_entry, entries_from, sort}
 use Rattle.voice.specs.Opening.{distinct}
-use Rattle.index.specs.Index.{Indexable, Filled, ascending, index_of}
+use Rattle.index.specs.Index.{Filled, ascending, index_of}
 use Rattle.index.specs.Shuffle.{Shuffled, name_in}
 use Rattle.index.proofs.OrderLaws.{not-both}
 use Rattle.index.proofs.WalkLaws.{placed}
 use Rattle.index.proofs.AscendingLaws.{other, distinct-parts}
 use Rattle.index.proofs.FilledLaws.{filled-by}
 use Rattle.index.proofs.ReorderLaws.{perm-sort}
-use Rattle.index.proofs.ShuffleLaws.{shuffled-count, shuffled-name, shuffled-read, shuffled-able, shuffled-self, shuffled-told, shuffled-distinct, filled-distinct}
+use Rattle.index.proofs.ShuffleLaws.{shuffled-count, shuffled-name, shuffled-read, shuffled-able, shuffled-told, shuffled-distinct, filled-distinct}
 
 distinct-drop : (i : ℕ) (ps : List Placed) → distinct ps ≡ true → distinct (drop i ps) ≡ true
 distinct-drop zero ps u = u

@@ -5,12 +5,17 @@ use Prim.Native.Nat.{ℕ, ◌+◌, ◌-◌, ◌*◌, ◌≤◌}
 use native.Mathlib.Nat.{mul-add, mul_comm, zero-mul}
 use native.Mathlib.Omega.{arith}
 use lib.ListN.{length, length-append, length-map}
+use lib.Dec.{ltb}
 use lib.Seq.{sets}
+use Rattle.base.specs.Choice.{pick}
 use Rattle.base.specs.Buffers.{over, flat}
 use Rattle.base.specs.Bytes.{bytes_of}
 use Rattle.base.proofs.BufferLaws.{over-nil, sets-append, sets_over, flat_append, length-flat}
 use Rattle.base.proofs.ByteLaws.{length-bytes_of}
+use Rattle.voice.specs.Header.{codec_of}
 use Rattle.voice.specs.Voice.{Voice}
+use Rattle.voice.specs.Periods.{residual_of}
+use Rattle.excitation.specs.Source.{decoded_by}
 use Rattle.excitation.specs.Taken.{Period, sizes_of, rows_of, excitation_of, decoded_over}
 use Rattle.excitation.proofs.SizedLaws.{Sized, rows-length}
 use Rattle.taking.proofs.PeriodLaws.{decoded-over}
@@ -28,7 +33,8 @@ same-buffers p q r s = cc
 decoded-append : (v : Voice) (d : List ℕ) (ps qs : List Period) → decoded_over v d (ps ++ qs) ≡ decoded_over v (decoded_over v d ps) qs
 unfolding decoded_over
 decoded-append v d [] qs = refl
-decoded-append v d (p ∷ ps) qs = decoded-append v _ ps qs
+decoded-append v d (p ∷ ps) qs =
+    decoded-append v (pick (ltb 0 p.size) (over (decoded_by (codec_of v.header) (residual_of v p.number)) d) d) ps qs
 
 sizes-bytes : (ps : List Period) → length (flat (bytes_of 4) (sizes_of ps)) ≡ 4 * length ps
 unfolding sizes_of

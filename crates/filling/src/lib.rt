@@ -1,5 +1,6 @@
 // Fills the buffers of a call that was checked. A `requires` here is what the caller has tested.
 #![tactic(auto)]
+
 ghost use Rattle.std.specs.Prelude.{◌≡◌, ◌≤◌, length, take};
 ghost use Rattle.base.specs.Buffers.{over, flat};
 ghost use Rattle.base.specs.Bytes.{bytes_of};

@@ -97,17 +97,19 @@ module _ (v : Voice) (u : Unit) (pace : Float) (end : ℕ) (ns : List ℕ) (rise
     one-empty bs own ih xs e =
         let f : up_to place (place ∷ (own ++ ns)) ≡ place ∷ up_to place (own ++ ns) = up_to-by place place (own ++ ns) true (le-leb place place (omega arith)) in
         let d : place - place ≡ 0 = omega arith in
-        rw (f, d, calm) (by xs (rw f at e))
+        rw (f, d, calm) (by xs (rw f at e) refl)
       where
-        by : (xs : List Step) → Empties place low (place ∷ up_to place (own ++ ns)) xs
+        by : {mark : ℕ} {ms : List ℕ} (xs : List Step) → Empties place low (mark ∷ ms) xs → ms ≡ up_to place (own ++ ns)
             → Moves (true ∷ (bs ++ listed)) (xs ++ old start place (after place (own ++ ns))) (step_at u start place place ∷ (steps u pace start place own ++ new))
-        by (x ∷ xs) (cons {u = w} l e) = step.moved {u = w} {w = u} (omega arith) (ih xs e)
+        by [] e q = elim e [ ]
+        by (x ∷ xs) (cons {u = w} l e) q = step.moved {u = w} {w = u} (omega arith) (ih xs (subst (λ (ms : List ℕ). Empties place low ms xs) q e))
 
     none-empty : (bs : List Bool) (own : List ℕ) → up_to place (own ++ ns) ≡ [] → Moves (bs ++ listed) (old start place (own ++ ns)) (steps u pace start place own ++ new) → Later bs own
     none-empty bs own f p xs e = rw f (by xs (rw f at e))
       where
         by : (xs : List Step) → Empties place low [] xs → Moves (bs ++ listed) (xs ++ old start place (own ++ ns)) (steps u pace start place own ++ new)
         by [] nil = p
+        by (_ ∷ _) e = elim e [ ]
 
     later-own : (p n : ℕ) → place + samples_from v p n ≡ end → Later (empty_head v p n) (marks_of_periods v place p n)
     unfolding empty_head marks_of_periods samples_from steps last_of
@@ -167,6 +169,7 @@ module _ (v : Voice) where
       → Moves (later_heads v (natural_units v place us)) (xs ++ old_steps place place us (after place (natural_marks v place us))) (new_steps place us)
   unfolding later_heads natural_marks flat makers_shares steps_of_share shares_from natural_units up_to
   later n place low [] number.nil bounds.nil [] nil = step.none
+  later n place low [] number.nil bounds.nil (_ ∷ _) t = elim t [ ]
   later n place low (u ∷ us) (number.cons a b k) (bounds.cons s e) xs t =
       let to = end place u in
       let q = old-unit place u us (after place (natural_marks v place (u ∷ us))) in

@@ -57,12 +57,12 @@ line_in s = record { pair = s.unit.pair; half = s.unit.half; first = s.before; s
 marks-periods : (v : Voice) (u : Unit) (pace place : Float) (mark : ℕ) (ms : List ℕ) → periods_of_marks v u pace place mark ms ≡ map (period_in v) (steps u pace place mark ms)
 unfolding periods_of_marks steps
 marks-periods v u pace place mark [] = refl
-marks-periods v u pace place mark (m ∷ ms) = ap (λ (ps : List Period). period_of v (m - mark) (nearest_period v u place) ∷ ps) (marks-periods v u pace _ m ms)
+marks-periods v u pace place mark (m ∷ ms) = ap (λ (ps : List Period). period_of v (m - mark) (nearest_period v u place) ∷ ps) (marks-periods v u pace (place_after_size place pace (m - mark)) m ms)
 
 marks-lines : (u : Unit) (pace place : Float) (mark : ℕ) (ms : List ℕ) → lines_of_marks u mark ms ≡ map line_in (steps u pace place mark ms)
 unfolding lines_of_marks steps
 marks-lines u pace place mark [] = refl
-marks-lines u pace place mark (m ∷ ms) = ap (λ (ls : List Line). line_in (step_at u place mark m) ∷ ls) (marks-lines u pace _ m ms)
+marks-lines u pace place mark (m ∷ ms) = ap (λ (ls : List Line). line_in (step_at u place mark m) ∷ ls) (marks-lines u pace (place_after_size place pace (m - mark)) m ms)
 
 flat_map : {A B C : Type 0} (f : A → List C) (g : A → List B) (h : B → C) → ((x : A) → f x ≡ map h (g x)) → (xs : List A) → flat f xs ≡ map h (flat g xs)
 unfolding flat

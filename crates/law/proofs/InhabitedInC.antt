@@ -21,7 +21,7 @@ use Rattle.c_plan.proofs.PlannedLaws.{by_call}
 use Rattle.call.specs.SpokenCall.{SpokenCall, LentBytes, read_as}
 use Rattle.law.specs.MadeInC.{PlanMadeInC, made, answer_read, PullsMadeInC, none, more, lent_in, MadeInC}
 use Rattle.law.specs.Demand3.{HasPulls}
-use Rattle.law.proofs.Lends.{lend, lend_all, lifetimes}
+use Rattle.law.proofs.Lends.{share, lend, lend_all, lifetimes}
 
 -- ---- every setting is said by a word
 
@@ -94,7 +94,7 @@ pulls-exist b w (d ∷ ds) =
     record {
       shown = record { answer = answer_read (number_for w l d); slice = slice_left w l d } ∷ i.shown;
       made =
-          more (lifetimes 5) (lend w) (lend b.sizes) (lend b.rows) (lend b.excitation) (lend d) (number_for w l d) (state_left w l d) (slice_left w l d)
+          more (lifetimes 5) (lend w) (share b.sizes) (share b.rows) (share b.excitation) (lend d) (number_for w l d) (state_left w l d) (slice_left w l d)
           refl refl refl (refl, (refl, refl)) i.made;
     }
 
@@ -102,7 +102,7 @@ plan-exists : (file sheet : List ℕ) (o : Settings) (h : Handed) → refusal_of
 plan-exists file sheet o h e =
     subst (λ (x : Settings). refusal_of_plan file sheet x h ≡ nothing → PlanMadeInC file sheet x h 0 (handed_after file sheet x h)) (said o)
     (λ q.
-    made (lifetimes 10) (lend file) (lend sheet) (word_of o) (lend_all h.buffers) (lend h.state) (lend h.summary)
+    made (lifetimes 10) (share file) (share sheet) (word_of o) (lend_all h.buffers) (lend h.state) (lend h.summary)
     0 _ (sym (ap answer_of q), refl))
     e
 

@@ -2,12 +2,15 @@
 use mathlib.Core.List.{List, []}
 use Prim.Native.Nat.{ℕ, zero, suc}
 use contract.Lifetimes.{Lfts}
-use denote.Ref.{Bor}
+use denote.Ref.{Bor, MutBor}
 use Rattle.call.specs.Buffers.{Buffers}
 use Rattle.law.specs.Made.{Lends}
 
-abbrev pub lend : List ℕ → Bor (List ℕ)
-lend x = record { ref_ptr = (0, 0); now = x }
+abbrev pub share : List ℕ → Bor (List ℕ)
+share x = record { ref_ptr = (0, 0); now = x }
+
+abbrev pub lend : List ℕ → MutBor (List ℕ)
+lend x = record { ref_ptr = (0, 0); ghost_name = 0; now = x }
 
 abbrev pub lend_all : Buffers → Lends
 lend_all b =

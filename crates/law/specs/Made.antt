@@ -1,7 +1,7 @@
 -- Calls and pulls that were made: each is known by the contract of `diphone::plan` or `diphone::pull` alone.
 use Rattle.std.specs.Prelude.{◌≡◌, List, [], ◌∷◌, ℕ}
 use contract.Lifetimes.{Lfts}
-use denote.Ref.{MutBor, at_last}
+use denote.Ref.{Bor, MutBor, at_last}
 use Rattle.lpc.specs.declared.FilterState.{FilterState}
 use Rattle.call.specs.declared.Settings.{Settings}
 use Rattle.call.specs.declared.Summary.{Summary}
@@ -48,7 +48,7 @@ listed l rest = (l.index, (l.marks, (l.sizes, (l.rows, (l.excitation, (l.decoded
 -- A call of `plan` on a voice file, a sheet, settings and buffers: what it returned, r, and what it left in its buffers, after, is known by
 -- what `plan` ensures.
 pub data PlanMade : List ℕ → List ℕ → Settings → Buffers → Planned → Buffers → Type 0 where
-  made : (κs : Lfts 8) (voice sheet : MutBor (List ℕ)) (l : Lends) (o : Settings) (r : Planned) (after : Buffers)
+  made : (κs : Lfts 8) (voice sheet : Bor (List ℕ)) (l : Lends) (o : Settings) (r : Planned) (after : Buffers)
       → plan.Post κs (voice, (sheet, (o, listed l tt))) r (voice, (sheet, (o, listed (left_with l after) tt)))
       → PlanMade voice.now sheet.now o (bytes_in l) r after
 
@@ -57,7 +57,7 @@ pub data PlanMade : List ℕ → List ℕ → Settings → Buffers → Planned �
 -- call showed.
 pub data PullsMade (b : LentBytes) : FilterState → List (List ℕ) → List Shown → Type 0 where
   none : {s : FilterState} → PullsMade b s [] []
-  more : {ds : List (List ℕ)} {os : List Shown} (κs : Lfts 4) (s : FilterState) (sizes rows excitation samples : MutBor (List ℕ))
+  more : {ds : List (List ℕ)} {os : List Shown} (κs : Lfts 4) (s : FilterState) (sizes rows excitation : Bor (List ℕ)) (samples : MutBor (List ℕ))
       (r : Pulled) (left : List ℕ)
       → sizes.now ≡ b.sizes
       → rows.now ≡ b.rows

@@ -1,7 +1,7 @@
 -- Calls and pulls that a program in C made: each is known by the contract of `diphone_plan` or `diphone_pull` alone.
 use Rattle.std.specs.Prelude.{◌≡◌, List, [], ◌∷◌, ℕ, ◌*◌, eqb, ℤ, pos, negsuc, take}
 use contract.Lifetimes.{Lfts}
-use denote.Ref.{MutBor, at_last}
+use denote.Ref.{Bor, MutBor, at_last}
 use Rattle.base.specs.Choice.{pick}
 use Rattle.base.specs.Bytes.{little_endian}
 use Rattle.refusal.specs.declared.Refusal.TheVariants.{ShortSlice, BadState}
@@ -20,7 +20,7 @@ use Rattle.law.specs.Made.{Lends, bytes_in, left_with, listed}
 -- A call of `diphone_plan` on a voice file, a sheet, a word that says the settings, and all that it was lent: what it answered, r, and what
 -- it left, after, is known by what `diphone_plan` ensures.
 pub data PlanMadeInC : List ℕ → List ℕ → Settings → Handed → ℕ → Handed → Type 0 where
-  made : (κs : Lfts 10) (voice sheet : MutBor (List ℕ)) (settings : ℕ) (l : Lends) (state summary : MutBor (List ℕ))
+  made : (κs : Lfts 10) (voice sheet : Bor (List ℕ)) (settings : ℕ) (l : Lends) (state summary : MutBor (List ℕ))
       (r : ℕ) (after : Handed)
       → plan.Post κs (voice, (sheet, (settings, listed l (state, (summary, tt))))) r
       (voice, (sheet, (settings, listed (left_with l after.buffers) (at_last state after.state, (at_last summary after.summary, tt)))))
@@ -37,8 +37,8 @@ answer_read (negsuc k) = pick (eqb k 0) Done (pick (eqb k 13) (Refused ShortSlic
 -- `diphone_pull` ensures.
 pub data PullsMadeInC (b : LentBytes) : List ℕ → List (List ℕ) → List Shown → Type 0 where
   none : {w : List ℕ} → PullsMadeInC b w [] []
-  more : {ds : List (List ℕ)} {os : List Shown} (κs : Lfts 5) (state sizes rows excitation samples : MutBor (List ℕ))
-      (r : ℤ) (kept left : List ℕ)
+  more : {ds : List (List ℕ)} {os : List Shown} (κs : Lfts 5) (state : MutBor (List ℕ)) (sizes rows excitation : Bor (List ℕ))
+      (samples : MutBor (List ℕ)) (r : ℤ) (kept left : List ℕ)
       → sizes.now ≡ b.sizes
       → rows.now ≡ b.rows
       → excitation.now ≡ b.excitation

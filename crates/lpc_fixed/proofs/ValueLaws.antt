@@ -42,9 +42,6 @@ small-fits (negsuc n) h = record { sfits = omega arith }
 
 -- an integer that fits v bits, cast to the w bits, which are no fewer
 module _ (v w : Width) (more : T (leb (hbits v) (hbits w))) (z : ℤ) (h : SFits v z) where
-  pub cast_fits : SFits w (to_z v (of_z v z))
-  cast_fits = rw (to_z-of_z h) (sfits_widen more h)
-
   pub cast_is : to_z w (of_z w (to_z v (of_z v z))) ≡ z
   cast_is = rw (to_z-of_z h) (to_z-of_z (sfits_widen more h))
 
@@ -74,10 +71,10 @@ module _ (q : ℕ) (m r : ℤ) (hq : Fits w16 q) (hm : SFits w32 m) (hr : SFits 
       let a : q / 2 ≤ 2 ^ 15 = omega (arith, hq.fits) in
       rw (product_is, nat_abs-times (q / 2) r) (le_trans (mul-le-mul_left (q / 2) (narrow_size r hr)) (omega arith))
 
-  pub product-fits : SFits w64 product
+  product-fits : SFits w64 product
   product-fits = small-fits product (omega (arith, product-size))
 
-  pub shrunk-fits : SFits w64 (quot_z (kept product) (pos 2048))
+  shrunk-fits : SFits w64 (quot_z (kept product) (pos 2048))
   shrunk-fits = rw (to_z-of_z product-fits) (quot_fits w64 product 2048 product-fits)
 
   sum_is : sum ≡ quot_z (pos (q / 2) *ℤ r) (pos 2048) +ℤ m
@@ -89,7 +86,7 @@ module _ (q : ℕ) (m r : ℤ) (hq : Fits w16 q) (hm : SFits w32 m) (hr : SFits 
       let s : nat_abs p ≤ 2 ^ 46 = rw product_is at product-size in
       rw sum_is (small-fits (quot_z p (pos 2048) +ℤ m) (omega (arith, nat_abs-sum (quot_z p (pos 2048)) m, nat_abs-quotient p 2048, narrow_size m hm)))
 
-  pub value-fits : SFits w64 (quot_z (kept sum) (pos 2))
+  value-fits : SFits w64 (quot_z (kept sum) (pos 2))
   value-fits = rw (to_z-of_z sum_fits) (quot_fits w64 sum 2 sum_fits)
 
   pub value-is : kept (quot_z (kept sum) (pos 2)) ≡ row_value m r q

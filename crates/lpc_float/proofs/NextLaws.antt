@@ -1,5 +1,5 @@
 -- An output from a row's values is the float filter's.
-use Rattle.std.proofs.Common.{◌≡◌, ℕ, ◌*◌, ◌/◌, ◌<◌, ◌≤◌, List, map, length, get_or, ℤ, refl, ap, ◌∙◌}
+use Rattle.std.proofs.Common.{◌≡◌, ℕ, ◌*◌, ◌/◌, ◌<◌, ◌≤◌, List, map, length, get_or, refl, ap, ◌∙◌}
 use lib.Ieee.{Float, nan, binary32, of_int, to_signed}
 use Rattle.base.specs.Buffers.{over, upto}
 use Rattle.base.specs.Bytes.{u16_at, elements}
@@ -11,10 +11,6 @@ use Rattle.lpc.specs.Sums.{summed, float_step}
 use Rattle.lpc.proofs.FilterLaws.{float-causal}
 use Rattle.lpc.proofs.RingLaws.{ago-default}
 use Rattle.lpc.proofs.SumLaws.{row_read, float-summed}
-
--- the same sum from the same sample
-pub started : (x y : ℤ) (cs : List Float) (h : ℕ → Float) → x ≡ y → summed float_step (of_int binary32 x) cs h 0 ≡ summed float_step (of_int binary32 y) cs h 0
-started x y cs h e = ap (λ (s : ℤ). summed float_step (of_int binary32 s) cs h 0) e
 
 module _ (least range : Float) (row : List ℕ) (order : ℕ) (values z : List Float) where
   pub next-is : length row ≡ 2 * order → values ≡ over (upto (λ k. float_value least range (u16_at row k)) (length row / 2)) z → (r : Ring Float) (x : ℕ) → r.place ≤ order → order < length r.history → summed float_step (of_int binary32 (sample_of x)) (upto (λ k. get_or values k nan) order) (λ k. get_or r.history (tap order r.place k) nan) 0 ≡ (float_filter least range).next (elements 2 row) (ago (float_filter least range) order r) x

@@ -1,5 +1,5 @@
 -- A float from 2 ^ -40 up to 2 ^ 15 in magnitude, as a 16-bit sample, by its pattern: the digits, with the leading one put back, are shifted to a whole number, which has the pattern's sign.
-use Rattle.std.proofs.Common.{◌≡◌, ℕ, zero, suc, ◌+◌, ◌-◌, ◌*◌, ◌/◌, ◌%◌, ◌^◌, ◌<◌, ◌≤◌, min, Bool, true, false, cond, T, leb, pos, neg_ℤ, sym, refl, ap, ◌∙◌, subst, le_trans, le_of_eq, lt_of_lt_of_le, mul-le-mul_right, div-lt_iff_lt-mul, one-mul, arith, pow_pos, pow_mono, pow-add, shr-shr, leb-false, leb-true}
+use Rattle.std.proofs.Common.{◌≡◌, ℕ, zero, suc, ◌+◌, ◌-◌, ◌*◌, ◌/◌, ◌%◌, ◌^◌, ◌<◌, ◌≤◌, min, Bool, true, false, cond, T, leb, pos, neg_ℤ, sym, refl, ap, ◌∙◌, subst, lt_of_lt_of_le, div-lt_iff_lt-mul, arith, pow_pos, pow_mono, pow-add, shr-shr, leb-false, leb-true}
 use lib.Pow.{shl-shr}
 use lib.Ieee.{Float, nan, inf, fin, binary32, up, down, fits, of_fields, of_bits, to_bits, to_signed}
 use lib.Ieee.Bits.{of_bits-to_bits}
@@ -34,11 +34,6 @@ whole-low q k h l =
     (div-lt_iff_lt-mul (pow_pos k)).1 (rw (← pow-add 2 15 k) (lt_of_lt_of_le h (pow_mono p)))
 
 -- ---- the words
-
-pub sign_low : (b n : ℕ) → b < 2 ^ 32 → b / 2 ^ 31 * n ≤ n
-sign_low b n B =
-    let l : b / 2 ^ 31 ≤ 1 = omega arith in
-    le_trans (mul-le-mul_right n l) (le_of_eq (one-mul n))
 
 sign_word : (b n : ℕ) → b < 2 ^ 32 → n < 2 ^ 15 → (n + b / 2 ^ 31 * (65536 - 2 * n)) % 2 ^ 16 ≡ low 16 (cond (leb (2 ^ 31) b) (neg_ℤ (pos n)) (pos n))
 unfolding low

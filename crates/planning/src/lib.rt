@@ -1,5 +1,6 @@
 // A checked call: its buffers tested, then filled.
 #![tactic(auto)]
+
 ghost use Rattle.std.specs.Prelude.{◌≡◌, true};
 ghost use Rattle.voice.specs.Voice.{voice_of};
 ghost use Rattle.sheet.specs.Sheet.{sheet_of};

@@ -1,5 +1,6 @@
 // Leaf functions, exported so that the comparison with the Rust can call them.
 #![tactic(auto)]
+
 ghost use Rattle.std.specs.Prelude.{◌≡◌, ◌*◌, ◌/◌, ◌%◌, ◌^◌, leb, pos, length, take};
 ghost use Rattle.std.specs.Float.{binary32};
 ghost use Rattle.std.specs.Float.Ieee.{of_bits, to_bits, of_int, to_signed, to_unsigned};

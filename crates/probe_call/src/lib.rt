@@ -1,6 +1,7 @@
 // Units and pitch marks, exported so that the comparison with the Rust can read them. A refusal is
 // answered by its number, anything else by 16 times a count.
 #![tactic(auto)]
+
 mod periods;
 mod windows;
 

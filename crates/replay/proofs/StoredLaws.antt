@@ -5,10 +5,9 @@ use mathlib.Core.List.{List}
 use Prim.Native.Nat.{ℕ, zero, suc, ◌+◌, ◌-◌, ◌≤◌, ◌<◌}
 use native.Mathlib.Omega.{arith}
 use native.Mathlib.Numerals.{add-one}
-use native.Mathlib.Nat.{zero-add}
 use borrow.Author.Tests.{leb-true, le-leb}
 use lib.Dec.{leb}
-use lib.ListN.{length, get_or, take, replicate, drop, length-take, length-replicate, drop_of_length-le}
+use lib.ListN.{length, get_or, take, replicate, drop, drop_of_length-le}
 use lib.Seq.{drop-cons}
 use Rattle.base.proofs.CaseLaws.{by_order}
 use Rattle.base.proofs.ListLaws.{and_left, and_right}
@@ -16,13 +15,10 @@ use Rattle.text.specs.Names.{same}
 use Rattle.call.specs.declared.Settings.{Settings}
 use Rattle.call.specs.Buffers.{lent}
 use Rattle.lines.specs.Lines.{Puts, refused}
-use Rattle.lines.proofs.PutLaws.{put-length, put-taken}
+use Rattle.lines.proofs.PutLaws.{put-taken}
 use Rattle.transcript.specs.CallText.{call_text}
-use Rattle.transcript.proofs.CallLaws.{taken-length}
-use Rattle.replay.specs.declared.Found.{Found}
-use Rattle.replay.specs.declared.Found.TheVariants.{Call}
 use Rattle.call.specs.Numbers.{settings_of}
-use Rattle.replay.specs.Stored.{length_at, limits, fitting, fits, buffers_of, text_of, kind_up_to, last_kind, line_end, lines_in, Sound}
+use Rattle.replay.specs.Stored.{length_at, limits, fitting, fits, buffers_of, text_of, kind_up_to, line_end, lines_in}
 
 -- ---- lengths and limits
 
@@ -55,13 +51,6 @@ module _ (head : List ℕ) where
 
 -- ---- buffers
 
--- the front of a buffer is as long as it is asked to be
-pub front_length : (n m x : ℕ) → n ≤ m → length (take n (replicate m x)) ≡ n
-front_length n m x h = rw (length-take, length-replicate {A = ℕ} m x) (omega arith)
-
-pub front_low : (n m x : ℕ) → n ≤ m → length (take n (replicate m x)) ≤ m
-front_low n m x h = let e = front_length n m x h in omega (arith, e, h)
-
 pub text-by : (head voice sheet : List ℕ) {s : Settings} {a b c d e f : ℕ} → s ≡ settings_of (get_or head 1 0)
     → a ≡ length_at head 2 → b ≡ length_at head 3 → c ≡ length_at head 4 → d ≡ length_at head 5 → e ≡ length_at head 6 → f ≡ length_at head 7
     → call_text voice sheet s (lent (take a (replicate 8192 0)) (take b (replicate 4096 0)) (take c (replicate 4096 0)) (take d (replicate 2048 0)) (take e (replicate 4096 255)) (take f (replicate 1024 0)))
@@ -72,9 +61,6 @@ text-by head voice sheet qs qa qb qc qd qe qf = rw (qs, qa, qb, qc, qd, qe, qf)
 -- ---- a text that was put, compared with another
 
 module _ {d e s : List ℕ} {n : ℕ} (p : Puts d 0 s e n) (h : n ≤ length d) where
-  pub put_count : n ≡ length (take n e)
-  put_count = sym (taken-length n e (rw (put-length p) h))
-
   pub put_same : {r : Bool} (want : List ℕ) → r ≡ same (take n e) want → r ≡ same s want
   put_same want q = q ∙ ap (λ (t : List ℕ). same t want) (put-taken p h)
 
@@ -104,9 +90,6 @@ pub record Lines (text : List ℕ) (n i : ℕ) : Type 0 where
   pub low : n ≤ i
 
 module _ (text : List ℕ) where
-  pub lines_none : Lines text 0 0
-  lines_none = record { most = omega arith; counted = zero-add (lines_in text); low = omega arith }
-
   pub lines_more : {n m : ℕ} (i : ℕ) → Lines text n i → i < length text → m ≡ line_end (get_or text i 0) → m ≤ 1 → Lines text (n + m) (i + 1)
   unfolding lines_in
   lines_more {n} {m} i l h e b =
@@ -118,8 +101,3 @@ module _ (text : List ℕ) where
   lines-all {n} i l h =
       let c : n + 0 ≡ lines_in text = rw (drop_of_length-le text {i = i} h) at l.counted in
       (omega (arith, c), omega (arith, l.low, l.most))
-
--- ---- what is found
-
-pub found-sound : {f : Found} {v kind periods : ℕ} {agrees : Bool} → f ≡ Call v kind periods agrees → Sound f → (v ≤ 32768) × ((kind ≤ last_kind) × (periods ≤ 41000))
-found-sound e s = subst Sound e s

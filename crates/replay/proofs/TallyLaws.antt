@@ -5,16 +5,12 @@ use mathlib.Core.List.{List}
 use Prim.Native.Nat.{ℕ, ◌+◌, ◌≤◌, ◌<◌}
 use native.Mathlib.Omega.{arith}
 use lib.Dec.{eqb}
-use lib.ListN.{length, get_or, set, replicate, length-set, length-replicate}
+use lib.ListN.{length, get_or, set, length-set}
 use lib.Seq.{get_or-set_same, get_or-set_other}
 use borrow.Author.Tests.{eqb-true, eqb-false}
-use Rattle.base.proofs.ListLaws.{replicated}
 use Rattle.replay.specs.declared.Tally.{Tally}
 use Rattle.replay.specs.Stored.{last_kind}
-use Rattle.replay.specs.Tallies.{none, wrong_with, first_with, counted, Sound}
-
-pub none-sound : Sound none
-none-sound = record { wrong = omega arith; kinds = λ k. rw (replicated {A = ℕ} 23 k 0) (omega arith); whole = length-replicate {A = ℕ} 23 0; periods = omega arith }
+use Rattle.replay.specs.Tallies.{wrong_with, first_with, counted, Sound}
 
 one_more : (xs : List ℕ) (i k n : ℕ) → i < length xs → ((j : ℕ) → get_or xs j 0 ≤ n) → get_or (set xs i (get_or xs i 0 + 1)) k 0 ≤ n + 1
 one_more xs i k n h low = by (eqb k i) refl

@@ -1,7 +1,8 @@
 // Makes stored calls and compares their texts with those that the Rust's answers made. data/README tells
 // what is in the file `calls`, and its format.
 #![tactic(auto)]
-ghost use Rattle.std.specs.Prelude.{◌≡◌, ◌<◌, ◌≤◌, length, get_or};
+
+ghost use Rattle.std.specs.Prelude.{◌≡◌, ◌<◌, ◌≤◌, IfOk, length, get_or};
 ghost use Rattle.text.specs.Names.{same};
 ghost use Rattle.lines.specs.Lines.{Puts};
 ghost use Rattle.lines.specs.Lines as lines;
@@ -10,7 +11,9 @@ ghost use Rattle.replay.specs.Stored as stored;
 ghost use Rattle.replay.specs.Tallies as tally;
 
 use call::Settings;
-use libc::STDOUT_FILENO;
+use std::fs::File;
+use std::io;
+use std::io::Read;
 
 // ---- counting
 
@@ -162,7 +165,7 @@ fn agrees(head: &[u8], voice: &[u8], sheet: &[u8], want: &[u8]) -> bool
     requires { stored.Fits head.now }
     ensures { result ≡ stored.agrees head.now voice.now sheet.now want.now }
 {
-    let mut out = io::large_buffer();
+    let mut out = [0u8; 65536];
     let n = put_text(head, voice, sheet, &mut out);
     text::same(&out[..n], want)
 }
@@ -234,10 +237,10 @@ enum Found {
 }
 
 // Reads n bytes to the front of a buffer, and says whether the file had them.
-fn read_part(fd: i32, buf: &mut [u8], n: usize) -> bool
+fn read_part<F: Read>(file: &mut F, buf: &mut [u8], n: usize) -> bool
     requires { n ≤ length buf.old }
 {
-    io::read_full(fd, &mut buf[..n]) == n
+    files::read_full(file, &mut buf[..n]) == n
 }
 
 // A stored call, made and compared.
@@ -255,18 +258,18 @@ fn compared(head: &[u8], voice: &[u8], sheet: &[u8], want: &[u8]) -> Found
 }
 
 // A call whose head was read, and its voice, the first v bytes of `voice`.
-fn next_compared(fd: i32, head: &[u8], voice: &[u8], v: usize) -> Found
+fn next_compared<F: Read>(file: &mut F, head: &[u8], voice: &[u8], v: usize) -> Found
     requires { stored.Fits head.now × ((v ≤ 32768) × (length voice.now ≡ 32768)) }
     ensures { stored.Sound result }
 {
     let mut sheet = [0u8; 4096];
-    let mut want = io::large_buffer();
+    let mut want = [0u8; 65536];
     let s = length_at(head, 1);
     let w = length_at(head, 8);
-    if !read_part(fd, &mut sheet, s) {
+    if !read_part(file, &mut sheet, s) {
         return Found::Damaged;
     }
-    if !read_part(fd, &mut want, w) {
+    if !read_part(file, &mut want, w) {
         return Found::Damaged;
     }
     compared(head, &voice[..v], &sheet[..s], &want[..w])
@@ -274,27 +277,27 @@ fn next_compared(fd: i32, head: &[u8], voice: &[u8], v: usize) -> Found
 
 // A call whose head was read. Its voice follows, or it is that of the call before, the first v bytes of
 // `voice`.
-fn next_call(fd: i32, head: &[u8], voice: &mut [u8], v: usize) -> Found
+fn next_call<F: Read>(file: &mut F, head: &[u8], voice: &mut [u8], v: usize) -> Found
     requires { stored.Fits head.now × ((v ≤ 32768) × (length voice.old ≡ 32768)) }
     ensures { stored.Sound result }
 {
     if head[0] == 0 {
-        return next_compared(fd, head, voice, v);
+        return next_compared(file, head, voice, v);
     }
     let n = length_at(head, 0);
-    if !read_part(fd, voice, n) {
+    if !read_part(file, voice, n) {
         return Found::Damaged;
     }
-    next_compared(fd, head, voice, n)
+    next_compared(file, head, voice, n)
 }
 
 // What the file has next; the first v bytes of `voice` are the voice of the call before.
-fn next(fd: i32, voice: &mut [u8], v: usize) -> Found
+fn next<F: Read>(file: &mut F, voice: &mut [u8], v: usize) -> Found
     requires { (v ≤ 32768) × (length voice.old ≡ 32768) }
     ensures { stored.Sound result }
 {
     let mut head = [0u8; 20];
-    let n = io::read_full(fd, &mut head);
+    let n = files::read_full(file, &mut head);
     if n == 0 {
         return Found::End;
     }
@@ -304,25 +307,19 @@ fn next(fd: i32, voice: &mut [u8], v: usize) -> Found
     if !fits(&head) {
         return Found::Damaged;
     }
-    next_call(fd, &head, voice, v)
-}
-
-fn print_damaged(number: usize) {
-    io::write_all(STDOUT_FILENO, b"the file is damaged at call ");
-    io::print_decimal(STDOUT_FILENO, number as u64);
-    io::write_all(STDOUT_FILENO, b"\n");
+    next_call(file, &head, voice, v)
 }
 
 // All calls up to the file's end or damage, at most 65,535.
-fn replay(fd: i32) -> Tally
-    ensures { tally.Sound result }
+fn replay<R: Print, F: Read>(rt: &R, file: &mut F) -> io::Result<Tally>
+    ensures { IfOk result (λ t. tally.Sound t) }
 {
     let mut voice = [0u8; 32768];
     let mut v = 0;
     let mut t = Tally::none();
     while t.calls < 65535 {
-        match next(fd, &mut voice, v) {
-            Found::End => return t,
+        match next(file, &mut voice, v) {
+            Found::End => return Ok(t),
             Found::Damaged => break,
             Found::Call(n, kind, periods, same) => {
                 t = t.counted(kind, periods, same);
@@ -330,57 +327,45 @@ fn replay(fd: i32) -> Tally
             }
         }
     }
-    print_damaged(t.calls + 1);
-    t
+    println!(rt; "the file is damaged at call {}", t.calls + 1)?;
+    Ok(t)
 }
 
 // A line: how many stored texts are of a kind, if any is.
-fn print_kind(kind: usize, count: usize) {
+fn print_kind<R: Print>(rt: &R, kind: usize, count: usize) -> io::Result<()> {
     if count == 0 {
-        return;
+        return Ok(());
     }
     if kind == 0 {
-        io::write_all(STDOUT_FILENO, b"spoken");
+        println!(rt; "spoken: {count}")
     } else {
-        io::write_all(STDOUT_FILENO, b"refused ");
-        io::print_decimal(STDOUT_FILENO, kind as u64);
-    }
-    io::write_all(STDOUT_FILENO, b": ");
-    io::print_decimal(STDOUT_FILENO, count as u64);
-    io::write_all(STDOUT_FILENO, b"\n");
-}
-
-fn print_kinds(kinds: [usize; 23]) {
-    let mut k = 0;
-    while k <= LAST_KIND {
-        print_kind(k, kinds[k]);
-        k += 1;
+        println!(rt; "refused {kind}: {count}")
     }
 }
 
-fn print_tally(t: Tally) {
-    let kinds = t.kinds;
-    print_kinds(kinds);
-    io::print_decimal(STDOUT_FILENO, t.calls as u64);
-    io::write_all(STDOUT_FILENO, b" calls, ");
-    io::print_decimal(STDOUT_FILENO, t.periods as u64);
-    io::write_all(STDOUT_FILENO, b" periods, ");
-    io::print_decimal(STDOUT_FILENO, t.wrong as u64);
-    io::write_all(STDOUT_FILENO, b" disagree");
+fn print_kinds<R: Print>(rt: &R, kinds: [usize; 23]) -> io::Result<()> {
+    for (kind, count) in kinds.iter().enumerate() {
+        print_kind(rt, kind, *count)?;
+    }
+    Ok(())
+}
+
+fn print_tally<R: Print>(rt: &R, t: Tally) -> io::Result<()> {
+    print_kinds(rt, t.kinds)?;
+    print!(rt;
+        "{} calls, {} periods, {} disagree",
+        t.calls, t.periods, t.wrong
+    )?;
     if t.wrong > 0 {
-        io::write_all(STDOUT_FILENO, b", the first is call ");
-        io::print_decimal(STDOUT_FILENO, t.first as u64);
+        print!(rt; ", the first is call {}", t.first)?;
     }
-    io::write_all(STDOUT_FILENO, b"\n");
+    println!(rt; "")
 }
 
-fn main() {
-    let fd = os::open_read(b"calls");
-    if fd < 0 {
-        print_tally(Tally::none());
-        return;
-    }
-    let t = replay(fd);
-    libc::close(fd);
-    print_tally(t);
+fn main(rt: HostRuntime) -> io::Result<()> {
+    let Ok(mut file) = File::open(&rt, "calls") else {
+        return print_tally(&rt, Tally::none());
+    };
+    let t = replay(&rt, &mut file)?;
+    print_tally(&rt, t)
 }

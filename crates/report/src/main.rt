@@ -1,6 +1,7 @@
 // The second program: makes the call of the first, speak, with the same files, settings and lengths of
 // buffers, and prints a line for each period, or why the call is refused.
 #![tactic(auto)]
+
 ghost use Rattle.std.specs.Prelude.{◌≡◌, ◌≤◌, length};
 ghost use Rattle.std.proofs.Math.Option.{none};
 ghost use Rattle.io.specs.Counts.{IsPrefixLen};
@@ -14,9 +15,9 @@ ghost use Rattle.report.specs.ReportText.{lines_text, text_of};
 ghost use Rattle.report.specs.Packed.{lines_in, Printable};
 
 use call::Called;
-use libc::STDOUT_FILENO;
 use refusal::Refusal;
 use reporting::Reported;
+use std::io;
 
 // What the first program's call answers.
 fn called(voice: &[u8], sheet: &[u8]) -> Called
@@ -95,12 +96,12 @@ fn put_text(voice: &[u8], sheet: &[u8], out: &mut [u8]) -> usize
 }
 
 // A file is read one byte past its limit, so that a longer one is seen.
-fn main() {
+fn main(rt: HostRuntime) -> io::Result<()> {
     let mut voice = [0u8; 32769];
     let mut sheet = [0u8; 4097];
-    let mut out = io::large_buffer();
-    let v = files::read_file(b"voice.flv", &mut voice);
-    let s = files::read_file(b"call.sht", &mut sheet);
+    let mut out = [0u8; 65536];
+    let v = files::read_file(&rt, "voice.flv", &mut voice);
+    let s = files::read_file(&rt, "call.sht", &mut sheet);
     let n = put_text(&voice[..v], &sheet[..s], &mut out);
-    io::write_all(STDOUT_FILENO, &out[..n]);
+    rt.write_all(&out[..n])
 }

@@ -30,7 +30,7 @@ use Rattle.excitation.proofs.ShareLaws.{front-rises, rest-rises, two_marks, peri
 use Rattle.excitation.proofs.SizedLaws.{Sized}
 use Rattle.lpc.specs.declared.ResynthType.{ResynthType}
 use Rattle.lpc.specs.declared.ResynthType.TheVariants.{Fixed, Float as FloatType}
-use Rattle.lpc.specs.Filter.{Filter, Part, periods_from}
+use Rattle.lpc.specs.Filter.{Filter, Part, outputs, periods_from}
 use Rattle.lpc.specs.Fixed.{fixed_filter}
 use Rattle.lpc.specs.Floating.{float_filter}
 use Rattle.lpc.specs.State.{periods_by}
@@ -158,7 +158,7 @@ each_line (l ∷ ls) (bounds.cons a k) (suc i) d h = each_line ls k i d (omega a
 filtered-lengths : {A : Type 0} (f : Filter A) (h : List A) (ps : List Part) → map length (periods_from f h ps) ≡ map (λ (p : Part). length p.bytes) ps
 unfolding periods_from
 filtered-lengths f h [] = refl
-filtered-lengths f h (p ∷ ps) = rw (length-samples f p.row h p.bytes) (ap (λ (l : List ℕ). length p.bytes ∷ l) (filtered-lengths f _ ps))
+filtered-lengths f h (p ∷ ps) = rw (length-samples f p.row h p.bytes) (ap (λ (l : List ℕ). length p.bytes ∷ l) (filtered-lengths f (outputs f p.row h p.bytes) ps))
 
 by_lengths : (t : ResynthType) (least range : Float) (ps : List Part) → map length (periods_by t least range ps) ≡ map (λ (p : Part). length p.bytes) ps
 unfolding periods_by

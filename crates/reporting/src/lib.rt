@@ -1,6 +1,7 @@
 // The period report of a call: for each taken period the pair and the half of the unit that took its
 // mark, its first sample and its size.
 #![tactic(auto)]
+
 ghost use Rattle.std.specs.Prelude.{◌≡◌, ◌*◌, ◌+◌, ◌≤◌, length};
 ghost use Rattle.std.proofs.lemmas.List.Edits.{sets};
 ghost use Rattle.base.specs.Buffers.{over, flat};

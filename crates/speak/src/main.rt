@@ -1,13 +1,14 @@
 // Document 01's program: speaks the sheet call.sht with the voice voice.flv, by the simple join, the
 // fixed filter and no fold, and prints rate, periods and samples, or why it is refused.
 #![tactic(auto)]
+
 ghost use Rattle.std.specs.Prelude.{◌≤◌, length};
 ghost use Rattle.io.specs.Counts.{IsPrefixLen};
 ghost use Rattle.lines.specs.Lines.{Puts};
 ghost use Rattle.speak.specs.Speaking as speaks;
 
-use libc::STDOUT_FILENO;
 use refusal::Refusal;
+use std::io;
 
 // The program's text for a voice file and a sheet, put to the front of `out`.
 fn put_text(voice: &[u8], sheet: &[u8], out: &mut [u8]) -> usize
@@ -39,12 +40,12 @@ fn put_text(voice: &[u8], sheet: &[u8], out: &mut [u8]) -> usize
 }
 
 // A file is read one byte past its limit, so that a longer one is seen.
-fn main() {
+fn main(rt: HostRuntime) -> io::Result<()> {
     let mut voice = [0u8; 32769];
     let mut sheet = [0u8; 4097];
-    let mut out = io::large_buffer();
-    let v = files::read_file(b"voice.flv", &mut voice);
-    let s = files::read_file(b"call.sht", &mut sheet);
+    let mut out = [0u8; 65536];
+    let v = files::read_file(&rt, "voice.flv", &mut voice);
+    let s = files::read_file(&rt, "call.sht", &mut sheet);
     let n = put_text(&voice[..v], &sheet[..s], &mut out);
-    io::write_all(STDOUT_FILENO, &out[..n]);
+    rt.write_all(&out[..n])
 }

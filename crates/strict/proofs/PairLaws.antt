@@ -25,6 +25,7 @@ module _ (find : SegmentRead → SegmentRead → Option Entry) where
   from_each : (s : SegmentRead) (rs : List SegmentRead) → found_from find s rs ≡ true → (left right : SegmentRead) → Adjacent left right (s ∷ rs)
       → is_some (find left right) ≡ true
   unfolding found_from
+  from_each s [] h left right p = elim p [ ]
   from_each s (r ∷ rs) h left right here = and_left (is_some (find left right)) (found_from find right rs) h
   from_each s (r ∷ rs) h left right (there p) = from_each r rs (and_right (is_some (find s r)) (found_from find r rs) h) left right p
 
@@ -45,6 +46,7 @@ module _ (find : SegmentRead → SegmentRead → Option Entry) where
 
   all-each : (rs : List SegmentRead) → found_all find rs ≡ true → (left right : SegmentRead) → Adjacent left right rs → is_some (find left right) ≡ true
   unfolding found_all
+  all-each [] h left right p = elim p [ ]
   all-each (s ∷ rs) h left right p = from_each s rs h left right p
 
   all-missing : (rs : List SegmentRead) → found_all find rs ≡ false → Missing rs
@@ -60,6 +62,7 @@ is_none (some x) e = absurd (true≢false e)
 
 stands-some : (ps : List Placed) (e : Entry) → Stands e ps → is_some (lookup e.name ps) ≡ true
 unfolding lookup
+stands-some [] e s = elim s [ ]
 stands-some (p ∷ ps) e (stands.here q) = rw (q, same_refl p.entry.name) refl
 stands-some (p ∷ ps) e (stands.there m) = by (same p.entry.name e.name) (stands-some ps e m)
   where

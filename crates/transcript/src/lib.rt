@@ -1,6 +1,7 @@
 // The text of a call, as document 01's program prints it: rate, periods and samples, then each period,
 // or why the call is refused.
 #![tactic(auto)]
+
 ghost use Rattle.std.specs.Prelude.{◌≡◌, ◌+◌, ◌≤◌, length};
 ghost use Rattle.lines.specs.Lines.{Puts};
 ghost use Rattle.lines.specs.Lines as lines;

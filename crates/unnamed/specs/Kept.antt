@@ -1,7 +1,7 @@
 -- Calls that were made, with all that each answered and left: each is known by a function's contract alone.
 use Rattle.std.specs.Prelude.{◌≡◌, List, [], ◌∷◌, ℕ, ℤ}
 use contract.Lifetimes.{Lfts}
-use denote.Ref.{MutBor, at_last}
+use denote.Ref.{Bor, MutBor, at_last}
 use Rattle.lpc.specs.declared.FilterState.{FilterState}
 use Rattle.call.specs.declared.Settings.{Settings}
 use Rattle.call.specs.declared.Pulled.{Pulled}
@@ -26,7 +26,7 @@ kept_of b s d = record { returned = (pull_of s (read_as b) d).pulled; slice = (p
 
 -- .. by the contract of `pull`
 pub data PullMade (b : LentBytes) : FilterState → List ℕ → Kept → Type 0 where
-  made : (κs : Lfts 4) (s : FilterState) (sizes rows excitation samples : MutBor (List ℕ)) (r : Pulled) (left : List ℕ)
+  made : (κs : Lfts 4) (s : FilterState) (sizes rows excitation : Bor (List ℕ)) (samples : MutBor (List ℕ)) (r : Pulled) (left : List ℕ)
       → sizes.now ≡ b.sizes
       → rows.now ≡ b.rows
       → excitation.now ≡ b.excitation
@@ -43,7 +43,7 @@ abbrev pub kept_in_c : LentBytes → List ℕ → List ℕ → KeptInC
 kept_in_c b w d = record { answer = number_for w (read_as b) d; state = state_left w (read_as b) d; slice = slice_left w (read_as b) d }
 
 pub data PullMadeInC (b : LentBytes) : List ℕ → List ℕ → KeptInC → Type 0 where
-  made : (κs : Lfts 5) (state sizes rows excitation samples : MutBor (List ℕ)) (r : ℤ) (kept left : List ℕ)
+  made : (κs : Lfts 5) (state : MutBor (List ℕ)) (sizes rows excitation : Bor (List ℕ)) (samples : MutBor (List ℕ)) (r : ℤ) (kept left : List ℕ)
       → sizes.now ≡ b.sizes
       → rows.now ≡ b.rows
       → excitation.now ≡ b.excitation
@@ -69,11 +69,11 @@ PullsKeptInC b = Pulls (PullMadeInC b) (λ (k : KeptInC). k.state)
 -- ---- `diphone_need` and `diphone_report`: voice file, sheet, settings and the buffer lent; the answer, and what is in the buffer then
 
 pub data NeedMadeInC : List ℕ → List ℕ → Settings → List ℕ → ℕ → List ℕ → Type 0 where
-  made : (κs : Lfts 3) (voice sheet : MutBor (List ℕ)) (settings : ℕ) (need : MutBor (List ℕ)) (r : ℕ) (left : List ℕ)
+  made : (κs : Lfts 3) (voice sheet : Bor (List ℕ)) (settings : ℕ) (need : MutBor (List ℕ)) (r : ℕ) (left : List ℕ)
       → need-in-c.Post κs (voice, (sheet, (settings, (need, tt)))) r (voice, (sheet, (settings, (at_last need left, tt))))
       → NeedMadeInC voice.now sheet.now (settings_of settings) need.now r left
 
 pub data ReportMadeInC : List ℕ → List ℕ → Settings → List ℕ → ℕ → List ℕ → Type 0 where
-  made : (κs : Lfts 3) (voice sheet : MutBor (List ℕ)) (settings : ℕ) (lines : MutBor (List ℕ)) (r : ℕ) (left : List ℕ)
+  made : (κs : Lfts 3) (voice sheet : Bor (List ℕ)) (settings : ℕ) (lines : MutBor (List ℕ)) (r : ℕ) (left : List ℕ)
       → report-in-c.Post κs (voice, (sheet, (settings, (lines, tt)))) r (voice, (sheet, (settings, (at_last lines left, tt))))
       → ReportMadeInC voice.now sheet.now (settings_of settings) lines.now r left

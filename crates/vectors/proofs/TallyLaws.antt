@@ -50,9 +50,6 @@ module _ (f : ℕ → Tally) (m n : ℕ) where
   unfolding all_of
   start e = record { most = omega arith; counted = e; bounded = rw e (record { compared = omega arith; wrong = omega arith; first = omega arith }) }
 
-  pub room : {t x : Tally} (k : ℕ) → At f m n t k → m * k ≤ 4294967296 → m ≤ 4294967296 → Within x m → Within t 4294967296 × Within x 4294967296
-  room k at h l w = (wider (m * k) 4294967296 h at.bounded, wider m 4294967296 l w)
-
   pub turn : {t x r : Tally} (k : ℕ) → At f m n t k → k < n → x ≡ f k → Within x m → r ≡ joined t x → At f m n r (k + 1)
   turn {t} {x} k at h ex w er =
       let e : m * k + m ≡ m * (k + 1) = rw add-one (omega (arith, mul-suc m k)) in
@@ -61,8 +58,3 @@ module _ (f : ℕ → Tally) (m n : ℕ) where
         counted = all_more f k at.counted ex er;
         bounded = rw er (rw e at (joined-within t x (m * k) m at.bounded w));
       }
-
-  pub end : {t : Tally} (k most : ℕ) → At f m n t k → n ≤ k → m * n ≤ most → (t ≡ all_of f n) × Within t most
-  end k most at h l =
-      let q : k ≡ n = omega arith in
-      (rw q at at.counted, wider (m * n) most l (rw q at at.bounded))

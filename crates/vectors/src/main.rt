@@ -1,13 +1,14 @@
 // Compares mu-law and the G.721 decoder with vectors that other implementations made.
 #![tactic(auto)]
+
 ghost use Rattle.std.specs.Prelude.{◌≡◌, ◌+◌, ◌*◌, ◌/◌, ◌%◌, ◌<◌, ◌≤◌, eqb, length};
 ghost use Rattle.base.specs.Bytes.{u16_at};
 ghost use Rattle.base.specs.Choice.{pick};
-ghost use Rattle.io.specs.Counts.{IsPrefixLen};
 ghost use Rattle.vectors.specs.Tallies as tally;
 ghost use Rattle.vectors.specs.Vectors as vector;
 
-use libc::STDOUT_FILENO;
+use std::io;
+use std::rt::Files;
 
 // ---- counting
 
@@ -239,74 +240,51 @@ fn all_periods(periods: &[u8], codes: &[u8], words: &[u8], want: &[u8]) -> Tally
 
 // ---- files and lines
 
-// Reads a file to the front of a buffer, and says how many bytes: 0 where it cannot be read.
-fn read_file(path: &[u8], buf: &mut [u8]) -> usize
-    ensures { IsPrefixLen result buf.new }
-{
-    let fd = os::open_read(path);
-    if fd < 0 {
-        return 0;
-    }
-    let n = io::read_full(fd, buf);
-    libc::close(fd);
-    n
-}
-
 // A line: how many were compared and disagree, and where the first of those is.
-fn print_tally(name: &[u8], t: Tally) {
-    io::write_all(STDOUT_FILENO, name);
-    io::print_decimal(STDOUT_FILENO, t.compared as u64);
-    io::write_all(STDOUT_FILENO, b" compared, ");
-    io::print_decimal(STDOUT_FILENO, t.wrong as u64);
-    io::write_all(STDOUT_FILENO, b" disagree");
+fn print_tally<R: Print>(rt: &R, name: &str, t: Tally) -> io::Result<()> {
+    print!(rt; "{name}: {} compared, {} disagree", t.compared, t.wrong)?;
     if t.wrong > 0 {
-        io::write_all(STDOUT_FILENO, b", the first after ");
-        io::print_decimal(STDOUT_FILENO, t.first as u64);
-        io::write_all(STDOUT_FILENO, b" that agree");
+        print!(rt; ", the first after {} that agree", t.first)?;
     }
-    io::write_all(STDOUT_FILENO, b"\n");
+    println!(rt; "")
 }
 
-fn try_decodings() {
-    let mut buf = io::buffer();
-    let n = read_file(b"g711.decoded", &mut buf);
+fn try_decodings<R: Files + Print>(rt: &R) -> io::Result<()> {
+    let mut buf = [0u8; 4096];
+    let n = files::read_file(rt, "g711.decoded", &mut buf);
     if n == 512 {
-        print_tally(b"mu-law bytes decoded: ", decodings(&buf[..n]));
+        print_tally(rt, "mu-law bytes decoded", decodings(&buf[..n]))
     } else {
-        io::write_all(STDOUT_FILENO, b"g711.decoded does not have 512 bytes\n");
+        println!(rt; "g711.decoded does not have 512 bytes")
     }
 }
 
-fn try_encodings() {
-    let mut buf = io::buffer();
-    let n = read_file(b"g711.encoded", &mut buf);
-    print_tally(b"mu-law samples encoded: ", encodings(&buf[..n]));
+fn try_encodings<R: Files + Print>(rt: &R) -> io::Result<()> {
+    let mut buf = [0u8; 4096];
+    let n = files::read_file(rt, "g711.encoded", &mut buf);
+    print_tally(rt, "mu-law samples encoded", encodings(&buf[..n]))
 }
 
-fn try_periods() {
-    let mut periods = io::buffer();
-    let mut codes = io::large_buffer();
-    let mut words = io::large_buffer();
-    let mut want = io::large_buffer();
-    let p = read_file(b"g721.periods", &mut periods);
-    let n = read_file(b"g721.codes", &mut codes);
-    let w = read_file(b"g721.samples", &mut words);
-    let m = read_file(b"g721.bytes", &mut want);
+fn try_periods<R: Files + Print>(rt: &R) -> io::Result<()> {
+    let mut periods = [0u8; 4096];
+    let mut codes = [0u8; 65536];
+    let mut words = [0u8; 65536];
+    let mut want = [0u8; 65536];
+    let p = files::read_file(rt, "g721.periods", &mut periods);
+    let n = files::read_file(rt, "g721.codes", &mut codes);
+    let w = files::read_file(rt, "g721.samples", &mut words);
+    let m = files::read_file(rt, "g721.bytes", &mut want);
     if w == 4 * n {
         if m == 2 * n {
             let t = all_periods(&periods[..p], &codes[..n], &words[..w], &want[..m]);
-            print_tally(b"G.721 samples and mu-law bytes decoded: ", t);
-            return;
+            return print_tally(rt, "G.721 samples and mu-law bytes decoded", t);
         }
     }
-    io::write_all(
-        STDOUT_FILENO,
-        b"the files of G.721 do not have two samples and bytes for each packed byte\n",
-    );
+    println!(rt; "the files of G.721 do not have two samples and bytes for each packed byte")
 }
 
-fn main() {
-    try_decodings();
-    try_encodings();
-    try_periods();
+fn main(rt: HostRuntime) -> io::Result<()> {
+    try_decodings(&rt)?;
+    try_encodings(&rt)?;
+    try_periods(&rt)
 }

@@ -1,4 +1,3 @@
-use Prim.Native.Nat.{◌-◌}
 use native.Mathlib.Omega.{arith}
 use Rattle.adpcm.proofs.Turns.{end, start, turn}
 use Rattle.adpcm.proofs.decode_adpcm.Goals as goal

@@ -1,4 +1,3 @@
-use mathlib.Core.Path.{ap}
 use Rattle.adpcm_scale.specs.Scale.{speed_of}
 use Rattle.std.proofs.Common.{rules}
 use Rattle.adpcm_scale.proofs.speed_of.Goals as goal

@@ -1,6 +1,6 @@
 use mathlib.Core.Path.{refl, sym, ap, ◌∙◌}
 use native.Mathlib.Omega.{arith}
-use Prim.Native.Nat.{◌+◌, ◌-◌}
+use Prim.Native.Nat.{◌+◌}
 use Rattle.base.specs.declared.Span.{Span}
 use Rattle.container.specs.Sections.{Sections, sections}
 use Rattle.container.proofs.SectionLaws.{rest, rest-done, rest-cut, rest_more}

@@ -5,7 +5,6 @@ use Prim.Native.Nat.{◌-◌}
 use lib.ListN.{length, take, drop}
 use native.Mathlib.Omega.{arith}
 use Rattle.voice.specs.Voice.{entries_from}
-use Rattle.voice.specs.Opening.{distinct}
 use Rattle.index.proofs.WalkLaws.{end}
 use Rattle.index.proofs.TestLaws.{distinct_none}
 use Rattle.distinct.proofs.names_differ.Goals as goal

@@ -1,4 +1,4 @@
-use Prim.Native.Nat.{◌-◌, ◌≤◌}
+use Prim.Native.Nat.{◌≤◌}
 use lib.ListN.{length}
 use Rattle.voice.specs.Voice.{entries_from}
 use Rattle.voice.specs.Opening.{distinct}

@@ -1,6 +1,5 @@
 use mathlib.Core.Path.{sym, ◌∙◌}
 use mathlib.Core.Bool.{true≢false}
-use Prim.Native.Nat.{◌-◌}
 use Rattle.distinct.proofs.NeighbourLaws.{neighbours-twice}
 use native.Mathlib.Omega.{arith}
 use Rattle.distinct.proofs.neighbours_agree.Goals as goal

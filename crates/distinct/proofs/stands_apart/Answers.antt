@@ -1,5 +1,4 @@
 use mathlib.Core.Path.{refl, sym, ◌∙◌}
-use Rattle.distinct.specs.Blocks.{apart}
 use Rattle.distinct.proofs.BlockLaws.{apart-end, apart-met, apart_more}
 use Rattle.index.proofs.WalkLaws.{turn, step, stop, end}
 use native.Mathlib.Omega.{arith}

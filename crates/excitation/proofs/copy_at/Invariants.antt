@@ -1,6 +1,6 @@
 use mathlib.Core.Path.{◌≡◌}
 use Prim.Native.Nat.{◌-◌, ◌≤◌}
-use lib.ListN.{length, take, set}
+use lib.ListN.{length, take}
 use lib.Seq.{sets}
 use Rattle.excitation.proofs.copy_at.Given as goal
 

@@ -1,6 +1,6 @@
 use mathlib.Core.Path.{◌≡◌}
 use Prim.Native.Nat.{◌-◌, ◌≤◌}
-use lib.ListN.{replicate, set}
+use lib.ListN.{replicate}
 use lib.Seq.{sets}
 use Rattle.excitation.proofs.fill_at.Given as goal
 

@@ -1,4 +1,3 @@
-use Prim.Native.Nat.{◌-◌}
 use Rattle.index.specs.Shuffle.{Shuffled}
 use Rattle.index.proofs.build_heap.Given as goal
 

@@ -1,4 +1,3 @@
-use Prim.Native.Nat.{◌-◌}
 use Rattle.index.proofs.ShuffleLaws.{shuffled-self, shuffled-then, shuffled-long}
 use native.Mathlib.Omega.{arith}
 use Rattle.index.proofs.empty_heap.Goals as goal

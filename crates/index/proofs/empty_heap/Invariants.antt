@@ -1,4 +1,4 @@
-use Prim.Native.Nat.{◌-◌, ◌≤◌}
+use Prim.Native.Nat.{◌≤◌}
 use Rattle.index.specs.Shuffle.{Shuffled}
 use Rattle.index.proofs.empty_heap.Given as goal
 

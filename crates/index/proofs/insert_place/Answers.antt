@@ -1,5 +1,4 @@
 use mathlib.Core.Path.{◌≡◌, sym, ◌∙◌}
-use Prim.Native.Nat.{◌-◌}
 use lib.ListN.{length}
 use Rattle.voice.specs.Voice.{entries_from}
 use Rattle.index.specs.Index.{sorted_from}

@@ -1,6 +1,4 @@
 use mathlib.Core.Path.{refl, sym, ◌∙◌}
-use mathlib.Core.Bool.{true}
-use Rattle.index.specs.Index.{ascending}
 use Rattle.index.proofs.WalkLaws.{turn}
 use Rattle.index.proofs.TestLaws.{ascending-turn, ascending-short}
 use native.Mathlib.Omega.{arith}

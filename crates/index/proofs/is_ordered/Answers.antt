@@ -1,5 +1,4 @@
 use mathlib.Core.Path.{refl, sym, ◌∙◌}
-use Prim.Native.Nat.{◌-◌}
 use Rattle.index.proofs.ShuffleLaws.{ordered-more, ordered-stop, ordered_end}
 use native.Mathlib.Omega.{arith}
 use Rattle.index.proofs.is_ordered.Goals as goal

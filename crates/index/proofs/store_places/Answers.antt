@@ -1,4 +1,3 @@
-use Prim.Native.Nat.{◌-◌}
 use Rattle.index.proofs.StoreLaws.{storing-start, storing-turn, storing-more, storing-end}
 use native.Mathlib.Omega.{arith}
 use Rattle.index.proofs.store_places.Goals as goal

@@ -1,7 +1,6 @@
 use native.Mathlib.Omega.{arith}
-use Prim.Native.Nat.{◌-◌}
 use Rattle.base.specs.Bytes.{elements}
-use Rattle.lines.specs.Lines.{next, samples}
+use Rattle.lines.specs.Lines.{samples}
 use Rattle.lines.proofs.PutLaws.{start, turn, end_of}
 use Rattle.lines.proofs.put_samples.Goals as goal
 

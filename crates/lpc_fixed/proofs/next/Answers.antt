@@ -2,11 +2,8 @@ use Rattle.std.proofs.Common.{◌≡◌, pos, ◌*ℤ◌, ap, ◌∙◌, w16, w3
 use Rattle.base.specs.Words.{low}
 use Rattle.ulaw.specs.Ulaw.{sample_of}
 use Rattle.lpc.specs.Fixed.{divided}
-use Rattle.lpc_fixed.proofs.ValueLaws.{cast_fits, cast_is, started}
+use Rattle.lpc_fixed.proofs.ValueLaws.{cast_is, started}
 use Rattle.lpc_fixed.proofs.next.Goals as goal
-
-pub overflow_cast-ulaw_to_i16 : goal.overflow_cast-ulaw_to_i16
-overflow_cast-ulaw_to_i16 c = cast_fits w16 w32 tt c.ulaw_to_i16.result (record { sfits = c.ulaw_to_i16.type_inv })
 
 pub returns : goal.returns
 unfolding divided

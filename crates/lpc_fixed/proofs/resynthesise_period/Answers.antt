@@ -1,7 +1,7 @@
-use Rattle.std.proofs.Common.{◌≡◌, ◌/◌, length, replicate, refl, ap, ◌∙◌, to_z-of_z, w32, rules}
+use Rattle.std.proofs.Common.{◌≡◌, ◌/◌, length, replicate, ap, ◌∙◌, to_z-of_z, w32, rules}
 use Rattle.base.specs.Buffers.{over, upto}
 use Rattle.lpc.specs.Fixed.{scaled_by, divided}
-use Rattle.lpc.proofs.RunLaws.{run-start, run-turn, run_end}
+use Rattle.lpc.proofs.RunLaws.{run-turn, run_end}
 use Rattle.lpc.proofs.StateLaws.{fixed-given}
 use Rattle.lpc_fixed.specs.Values.{value_at}
 use Rattle.lpc_fixed.proofs.WindowLaws.{windowed-turn, window-sum}
@@ -9,21 +9,6 @@ use Rattle.lpc_fixed.proofs.NextLaws.{values_same, next-is, out-is}
 use Rattle.lpc_fixed.proofs.resynthesise_period.Invariants.{ring}
 use Rattle.lpc_fixed.proofs.resynthesise_period.Goals as goal
 use Rattle.lpc_fixed.proofs.resynthesise_period.Goals.{After-place_after-place}
-
--- that the history has 33 places is the rule of its field, the eighth of the state's
-pub loop-i-init : goal.loop-i-init
-loop-i-init c = (
-  record {
-    history_long = c.well_formed.0.1.1.1.1.1.1.1.1.1.0.1.0.1;
-    window_long = c.doubled-window.ensures.1;
-    twice = c.doubled-window.ensures.0;
-    newest_is = refl;
-  },
-  run-start _ _ _ _ _ _ (search rules),
-)
-
-pub next-y-requires : goal.next-y-requires
-next-y-requires c = (search rules, search rules, c.loop-i.invariant.0.newest_is)
 
 -- the row's values
 values : (c : After-place_after-place) → c.row_values-values.result ≡ over (upto (value_at (scaled_by 32768 c.args.state.coeff_min) (scaled_by 2048 c.args.state.coeff_range) c.args.row.now) (length c.args.row.now / 2)) (replicate 32 0)

@@ -1,4 +1,4 @@
-use Rattle.std.proofs.Common.{◌≡◌, ◌/◌, ◌<◌, length, replicate, arith, to_z-of_z}
+use Rattle.std.proofs.Common.{◌<◌, replicate, arith}
 use Rattle.base.proofs.BufferLaws.{stored-none, stored_more}
 use Rattle.lpc_fixed.proofs.row_values.Goals as goal
 
@@ -10,9 +10,3 @@ loop-k-preserved c =
     let l = c.loop-k in
     let k : l.k < 32 = omega arith in
     (omega arith, rw (l.invariant.1, c.row_value.ensures, c.u16_at-q.ensures) (stored_more _ l.k (replicate 32 0) k))
-
-pub returns : goal.returns
-returns c =
-    let l = c.loop-k in
-    let e : l.k ≡ length c.args.row.now / 2 = omega arith in
-    rw (← e, ← to_z-of_z c.ranges.min_q, ← to_z-of_z c.ranges.range_q) l.invariant.1

@@ -1,19 +1,11 @@
 use Rattle.std.proofs.Common.{◌≡◌, ◌<◌, length, sym, ◌∙◌, arith, length-set, rules}
 use lib.Ieee.{nan}
 use Rattle.lpc.proofs.RingLaws.{newest}
-use Rattle.lpc.proofs.RunLaws.{run-start, run-turn, run_end}
+use Rattle.lpc.proofs.RunLaws.{run-turn, run_end}
 use Rattle.lpc.proofs.StateLaws.{float_of, float-given}
 use Rattle.lpc_float.proofs.NextLaws.{next-is, out-is}
 use Rattle.lpc_float.proofs.resynthesise_period.Invariants.{ring}
 use Rattle.lpc_float.proofs.resynthesise_period.Goals as goal
-
--- that the history has 33 places is the rule of its field, the ninth of the state's
-pub loop-i-init : goal.loop-i-init
-loop-i-init c = (
-  c.well_formed.0.1.1.1.1.1.1.1.1.1.1.0.1.0.1,
-  rw c.place_before.ensures.0,
-  run-start _ _ _ _ _ _ (search rules),
-)
 
 pub loop-i-preserved : goal.loop-i-preserved
 loop-i-preserved c =

@@ -1,4 +1,4 @@
-use Rattle.std.proofs.Common.{◌≡◌, ◌/◌, ◌<◌, length, replicate, arith}
+use Rattle.std.proofs.Common.{◌<◌, replicate, arith}
 use lib.Ieee.{of_bits}
 use Rattle.base.proofs.BufferLaws.{stored-none, stored_more}
 use Rattle.lpc_float.specs.Values.{zero32}
@@ -13,9 +13,3 @@ loop-k-preserved c =
     let l = c.loop-k in
     let k : l.k < 32 = omega arith in
     (omega arith, rw (l.invariant.1, c.row_value.ensures, c.u16_at-q.ensures) (stored_more _ l.k (replicate 32 zero32) k))
-
-pub returns : goal.returns
-returns c =
-    let l = c.loop-k in
-    let e : l.k ≡ length c.args.row.now / 2 = omega arith in
-    rw (← e) l.invariant.1

@@ -1,5 +1,5 @@
 use Rattle.std.proofs.Common.{◌≡◌, false, sym, refl, ◌∙◌, subst, arith}
-use Rattle.marks.specs.Walking.{on_way, Advanced, coming}
+use Rattle.marks.specs.Walking.{on_way, Advanced}
 use Rattle.marks.specs.declared.Aimed.TheVariants.{To}
 use Rattle.marks.proofs.WalkLaws.{coming-none}
 use Rattle.marks.proofs.settle.Goals as goal

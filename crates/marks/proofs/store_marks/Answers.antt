@@ -1,5 +1,4 @@
-use Rattle.std.proofs.Common.{◌-◌, refl, ◌∙◌, arith}
-use Rattle.base.specs.Buffers.{over}
+use Rattle.std.proofs.Common.{refl, ◌∙◌, arith}
 use Rattle.marks.proofs.WalkLaws.{step-low}
 use Rattle.marks.proofs.StoreLaws.{storing-first, storing-refused, storing-done, storing-all, storing-room, storing-mark}
 use Rattle.marks.proofs.store_marks.Goals as goal

@@ -1,6 +1,6 @@
 use mathlib.Core.Path.{◌≡◌, sym, ap, ◌∙◌}
 use mathlib.Core.Bool.{Bool}
-use Prim.Native.Nat.{ℕ, ◌+◌, ◌-◌}
+use Prim.Native.Nat.{ℕ, ◌+◌}
 use native.Mathlib.Omega.{arith}
 use Rattle.text.specs.Names.{among}
 use Rattle.phoneset.proofs.WordLaws.{ahead, ahead-all, ahead-done, ahead-word, ahead_more, among_none, among-here, among_next}

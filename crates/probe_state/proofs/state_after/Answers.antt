@@ -1,5 +1,4 @@
 use mathlib.Core.Path.{◌≡◌, ap, ◌∙◌}
-use Prim.Native.Nat.{◌-◌}
 use native.Mathlib.Omega.{arith}
 use Rattle.adpcm.specs.Decoder.{codes_of, state_at}
 use Rattle.adpcm.proofs.Turns.{state-first, state-next}

@@ -1,6 +1,5 @@
 use mathlib.Core.Path.{sym, ap, ◌∙◌}
 use Prim.Native.Nat.{◌+◌, ◌-◌, ◌/◌}
-use Rattle.voice.specs.Voice.{sort}
 use Rattle.index.specs.Index.{periods_of, found_of}
 use Rattle.index.specs.declared.FoundEntry.TheVariants.{Found}
 use Rattle.index.proofs.AscendingLaws.{sort-lookup, sort-ascending, length-sorted}

@@ -2,7 +2,6 @@ use mathlib.Core.Path.{refl, sym, ap, ◌∙◌}
 use Prim.Native.Nat.{ℕ}
 use mathlib.Core.List.{List}
 use Rattle.text.specs.Names.{same}
-use Rattle.voice.specs.Voice.{lookup}
 use Rattle.index.specs.Index.{found_of}
 use Rattle.index.specs.declared.FoundEntry.TheVariants.{Found}
 use Rattle.index.proofs.WalkLaws.{turn, step, stop, end}

@@ -1,5 +1,4 @@
-use Rattle.std.proofs.Common.{◌-◌, sym, refl, ◌∙◌, arith}
-use Rattle.sheet.specs.Sheet.{printable}
+use Rattle.std.proofs.Common.{sym, refl, ◌∙◌, arith}
 use Rattle.sheet.proofs.NameLaws.{printable-low, printable-high, printable-more, printable-done}
 use Rattle.sheet.proofs.is_printable.Goals as goal
 

@@ -1,5 +1,4 @@
 use Rattle.std.proofs.Common.{ap, arith}
-use Rattle.sheet.specs.Sheet.{segment}
 use Rattle.sheet.specs.Answers.{segment_says}
 use Rattle.sheet.proofs.ItemLaws.{skip_first, skip-refused, skip-on, skip-done}
 use Rattle.sheet.proofs.skip_segments.Goals as goal

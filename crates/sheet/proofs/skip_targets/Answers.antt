@@ -1,5 +1,4 @@
 use Rattle.std.proofs.Common.{ap, arith}
-use Rattle.sheet.specs.Sheet.{value}
 use Rattle.sheet.specs.Answers.{value_says}
 use Rattle.sheet.proofs.AnswerLaws.{same-reading}
 use Rattle.sheet.proofs.ItemLaws.{skip_first, skip-refused, skip-on, skip-done, targets-values}

@@ -1,6 +1,5 @@
 use mathlib.Core.Path.{refl, ap, ◌∙◌}
 use native.Mathlib.Omega.{arith}
-use Rattle.voice.specs.Voice.{lookup}
 use Rattle.index.specs.Index.{found_of}
 use Rattle.index.specs.declared.FoundEntry.TheVariants.{Found}
 use Rattle.index.proofs.WalkLaws.{turn, step, stop, end}

@@ -2,7 +2,7 @@ use mathlib.Core.Path.{◌≡◌}
 use mathlib.Core.Bool.{true}
 use Rattle.voice.specs.Voice.{entries_from, lookup}
 use Rattle.index.specs.Index.{ascending}
-use Rattle.index.proofs.WalkLaws.{Walk, end}
+use Rattle.index.proofs.WalkLaws.{Walk}
 use Rattle.sparse.proofs.find_from.Given as goal
 
 abbrev pub invariant-loop-left : goal.invariant-loop-left

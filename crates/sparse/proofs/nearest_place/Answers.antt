@@ -1,5 +1,4 @@
 use mathlib.Core.Path.{sym, ap, ◌∙◌}
-use Prim.Native.Nat.{◌-◌}
 use native.Mathlib.Omega.{arith}
 use Rattle.text.specs.Names.{before}
 use Rattle.sparse.proofs.SparseLaws.{begins-turn, from_first, passed_over}

@@ -1,5 +1,4 @@
 use mathlib.Core.Path.{refl}
-use Prim.Native.Nat.{◌-◌}
 use native.Mathlib.Omega.{arith}
 use Rattle.taking.proofs.UnitLaws.{share-whole, share-ends, share-goes-on}
 use Rattle.taking.proofs.marks_up_to_end.Goals as goal

@@ -1,4 +1,3 @@
-use Prim.Native.Nat.{◌-◌}
 use native.Mathlib.Omega.{arith}
 use lib.Ieee.{of_bits}
 use Rattle.taking.proofs.UnitLaws.{ran_out, mark-above, can-take, going_on, going-first, room_for, took}

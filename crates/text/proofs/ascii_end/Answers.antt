@@ -1,7 +1,5 @@
 use native.Mathlib.Omega.{arith}
 use mathlib.Core.Path.{refl, ◌∙◌}
-use Prim.Native.Nat.{◌-◌}
-use Rattle.text.specs.Utf8.{utf8}
 use Rattle.text.proofs.Utf8Laws.{utf8-ascii}
 use Rattle.text.proofs.ascii_end.Goals as goal
 

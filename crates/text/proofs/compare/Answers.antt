@@ -1,5 +1,4 @@
 use native.Mathlib.Omega.{arith}
-use Prim.Native.Nat.{◌-◌}
 use mathlib.Core.Path.{refl, sym, ◌∙◌}
 use Rattle.text.proofs.NameLaws.{order-before, order-after, order-more, order-short, order-long, order-done}
 use Rattle.text.proofs.compare.Goals as goal

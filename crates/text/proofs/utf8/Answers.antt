@@ -1,7 +1,6 @@
 use native.Mathlib.Omega.{arith}
 use mathlib.Core.Path.{sym, ap, ◌∙◌}
-use Prim.Native.Nat.{◌-◌}
-use Rattle.text.specs.Utf8.{waits, complete, utf8}
+use Rattle.text.specs.Utf8.{complete, utf8}
 use Rattle.text.proofs.Utf8Laws.{waits-more, waits-done}
 use Rattle.text.proofs.utf8.Goals as goal
 

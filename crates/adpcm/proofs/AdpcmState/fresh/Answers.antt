@@ -1,4 +1,4 @@
-use mathlib.Core.Path.{ap, refl}
+use mathlib.Core.Path.{refl}
 use Rattle.adpcm.specs.Decoder.{fresh}
 use Rattle.std.proofs.Common.{rules}
 use Rattle.adpcm.proofs.AdpcmState.fresh.Goals as goal

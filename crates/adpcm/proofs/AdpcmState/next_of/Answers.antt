@@ -1,4 +1,3 @@
-use mathlib.Core.Path.{ap}
 use Rattle.adpcm.specs.Decoder.{next_of}
 use Rattle.adpcm.proofs.AdpcmState.next_of.Goals as goal
 

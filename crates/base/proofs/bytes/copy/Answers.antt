@@ -3,7 +3,6 @@ use Prim.Native.Nat.{ℕ}
 use lib.ListN.{set, get_or}
 use native.Mathlib.Omega.{arith}
 use mathlib.Core.Path.{ap, ◌∙◌}
-use Prim.Native.Nat.{◌-◌}
 use lib.ListN.{length}
 use Rattle.base.proofs.BufferLaws.{copied_none, copied_more, copied-length, copied_all}
 use Rattle.base.proofs.bytes.copy.Goals as goal

@@ -1,4 +1,4 @@
-use Rattle.std.proofs.Common.{◌-◌, refl, ◌∙◌, arith}
+use Rattle.std.proofs.Common.{refl, ◌∙◌, arith}
 use Rattle.marks.proofs.StoreLaws.{unit-stored, unit-room, unit-low, unit-storing, unit-first}
 use Rattle.marks.proofs.natural.store_unit_marks.Goals as goal
 

@@ -1,7 +1,6 @@
 use native.Mathlib.Omega.{arith}
 use mathlib.Core.Path.{◌≡◌, refl, sym, ap, ◌∙◌}
 use native.Mathlib.Numerals.{add-one}
-use Prim.Native.Nat.{◌-◌}
 use Rattle.voice.specs.Voice.{voice_of}
 use Rattle.voice.specs.Periods.{longest}
 use Rattle.voice.proofs.periods.longest.Goals as goal

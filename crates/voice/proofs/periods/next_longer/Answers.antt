@@ -1,9 +1,8 @@
 use native.Mathlib.Omega.{arith}
 use mathlib.Core.Path.{sym, ap, ◌∙◌}
 use native.Mathlib.Numerals.{add-one}
-use Prim.Native.Nat.{◌-◌}
 use Rattle.voice.specs.Voice.{voice_of}
-use Rattle.voice.specs.Periods.{offset, longest}
+use Rattle.voice.specs.Periods.{offset}
 use Rattle.voice.proofs.PeriodLaws.{longest-stays}
 use Rattle.voice.proofs.OpenLaws.{offset-rises}
 use Rattle.voice.proofs.periods.next_longer.Goals as goal

@@ -1,8 +1,5 @@
 use mathlib.Core.Path.{◌≡◌, refl, sym, ap, ◌∙◌}
 use native.Mathlib.Omega.{arith}
-use mathlib.Core.Bool.{true}
-use Prim.Native.Nat.{◌-◌}
-use Rattle.base.specs.Bytes.{u32_at}
 use Rattle.voice.specs.Opening.{rising_in}
 use Rattle.voice.proofs.TableLaws.{risen-more, risen-fails}
 use Rattle.voice.proofs.tables.is_rising.Goals as goal

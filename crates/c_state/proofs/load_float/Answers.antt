@@ -1,0 +1,26 @@
+use mathlib.Core.Path.{◌≡◌, ◌∙◌}
+use Prim.Native.Nat.{◌<◌}
+use native.Mathlib.Omega.{arith}
+use lib.ListN.{replicate}
+use lib.Ieee.{binary32, of_bits}
+use Rattle.base.specs.Buffers.{upto}
+use Rattle.base.proofs.BufferLaws.{over-all, length-upto, stored-none, stored_more}
+use Rattle.c_state.proofs.load_float.Invariants.{float_at}
+use Rattle.c_state.proofs.load_float.Goals as goal
+
+pub loop-i-init : goal.loop-i-init
+loop-i-init c = (omega arith, stored-none (float_at c.args.buf.now) 0 (replicate 33 (of_bits binary32 0)))
+
+pub loop-i-preserved : goal.loop-i-preserved
+loop-i-preserved c =
+    let l = c.loop-i in
+    let f = float_at c.args.buf.now in
+    let room : l.i < 33 = omega arith in
+    (omega arith, rw (l.invariant.1, c.f32_from_word.ensures, c.read_u32.ensures) (stored_more f l.i (replicate 33 (of_bits binary32 0)) room))
+
+pub returns : goal.returns
+returns c =
+    let l = c.loop-i in
+    let f = float_at c.args.buf.now in
+    let e : l.i ≡ 33 = omega arith in
+    rw e at l.invariant.1 ∙ over-all (upto f 33) (replicate 33 (of_bits binary32 0)) (omega (arith, length-upto f 33))

@@ -1,0 +1,13 @@
+use mathlib.Core.Path.{sym, ap, ◌∙◌}
+use Rattle.sheet.specs.Places.{refusal_of}
+use Rattle.checking.proofs.CheckLaws.{read-refusal, sheet-refused, refused-checked}
+use Rattle.checking.proofs.check_sheet.Goals as goal
+
+pub check_marks-requires : goal.check_marks-requires
+check_marks-requires c =
+    (c.requires.0, (sym c.read_sheet.ensures.0 ∙ c.in-Read.is, c.requires.1))
+
+pub returns-in-Refused : goal.returns-in-Refused
+returns-in-Refused c =
+    refused-checked _ _ _ _
+    (sheet-refused _ _ _ _ c.requires.0.fit (sym (read-refusal _) ∙ ap refusal_of (sym c.read_sheet.ensures.0 ∙ c.in-Refused.is)))

@@ -1,2 +1,0 @@
--- Laws about files read and written.
-pub mod CountLaws
