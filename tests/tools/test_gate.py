@@ -47,6 +47,11 @@ class Gate(unittest.TestCase):
         path.write_text(text)
         path.chmod(0o755)
 
+    def clear(self):
+        """As in a fresh clone."""
+        for out in self.root.glob("crates/*/out"):
+            shutil.rmtree(out)
+
     def gate(self, says, status=0):
         """The exit status, the last line, and what was called."""
         (self.other / "says").write_text(says)
@@ -66,15 +71,17 @@ class Gate(unittest.TestCase):
 
     @unittest.skipUnless(os.uname().machine == "x86_64", "archives are for x86-64 alone")
     def test_archives(self):
-        """From what rt ci built where nothing was built before, else by tools/archive."""
+        """From what rt ci built where nothing was built before; else, and where that fails, by tools/archive."""
         self.assertEqual(self.gate(OK.format(""))[2][1:5], ARCHIVES.split())
         for name in ("diphone_c", "probe"):
             self.assertEqual((self.root / f"target/staticlib/lib{name}.a").read_text(), "made\n")
         names = ARCHIVES.replace("diphone_c_c", "diphone_c").split()
         self.assertEqual(self.gate(OK.format(""))[2][1:5], [f"archive {name}" for name in names])
-        for out in self.root.glob("crates/*/out"):
-            shutil.rmtree(out)
         self.put(self.other / "bin/rattle", "#!/bin/sh\nexit 1\n")
+        self.clear()
+        self.assertEqual(self.gate(OK.format(""))[2][1:5], [f"archive {name}" for name in names])
+        self.put("tools/archive", "#!/bin/sh\nexit 1\n")
+        self.clear()
         self.assertEqual(self.gate(OK.format(""))[:2], (1, "9 passed, 1 failed"))
 
     def test_fails(self):

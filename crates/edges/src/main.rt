@@ -6,7 +6,7 @@ mod calls;
 mod pulls;
 
 ghost use Rattle.std.specs.Prelude.{◌≡◌, ◌+◌, ◌*◌, ◌<◌, ◌≤◌, length};
-ghost use Rattle.std.specs.Io.{ReadsAtMost};
+ghost use Rattle.io.specs.Counts.{IsPrefixLen};
 ghost use Rattle.sheet.specs.Places.{sheet_places, answer_in};
 ghost use Rattle.sheet.specs.declared.SheetAnswer.TheVariants as SheetAnswer;
 
@@ -89,8 +89,8 @@ fn try_marks<R: Print>(rt: &R) -> io::Result<()> {
 fn try_calls_of_marks<R: Files + Print>(rt: &R, voice: &[u8]) -> io::Result<()> {
     let mut second = [0u8; 4096];
     let mut later = [0u8; 4096];
-    let s = read_file(rt, "65536.sht", &mut second)?;
-    let l = read_file(rt, "65537.sht", &mut later)?;
+    let s = read_file(rt, "65536.sht", &mut second);
+    let l = read_file(rt, "65537.sht", &mut later);
     print!(rt; "65536 marks, a call: ")?;
     calls::try_marks(rt, voice, &second[..s])?;
     print!(rt; "65537 marks, a call: ")?;
@@ -98,14 +98,14 @@ fn try_calls_of_marks<R: Files + Print>(rt: &R, voice: &[u8]) -> io::Result<()> 
 }
 
 // Reads a file to the front of a buffer, and says how many bytes: 0 where it cannot be read.
-fn read_file<R: Files + Print>(rt: &R, path: &str, buf: &mut [u8]) -> io::Result<usize>
-    ensures { ReadsAtMost result buf.new }
+fn read_file<R: Files + Print>(rt: &R, path: &str, buf: &mut [u8]) -> usize
+    ensures { IsPrefixLen result buf.new }
 {
     let Ok(mut file) = File::open(rt, path) else {
-        println!(rt; "{path} cannot be read")?;
-        return Ok(0);
+        let _ = println!(rt; "{path} cannot be read");
+        return 0;
     };
-    Ok(files::read_full(&mut file, buf))
+    files::read_full(&mut file, buf)
 }
 
 // Limits that document 01's voice will do for.
@@ -119,8 +119,8 @@ fn try_limits<R: Files + Print>(rt: &R, voice: &[u8]) -> io::Result<()> {
 fn try_call<R: Files + Print>(rt: &R, voice: &[u8]) -> io::Result<()> {
     let mut higher = [0u8; 4096];
     let mut sheet = [0u8; 4096];
-    let h = read_file(rt, "order33.flv", &mut higher)?;
-    let s = read_file(rt, "call.sht", &mut sheet)?;
+    let h = read_file(rt, "order33.flv", &mut higher);
+    let s = read_file(rt, "call.sht", &mut sheet);
     calls::try_orders(rt, voice, &higher[..h], &sheet[..s])?;
     calls::try_elements(rt, voice, &sheet[..s])?;
     calls::try_bytes(rt, voice, &sheet[..s])?;
@@ -130,8 +130,8 @@ fn try_call<R: Files + Print>(rt: &R, voice: &[u8]) -> io::Result<()> {
 fn main(rt: HostRuntime) -> io::Result<()> {
     let mut example = [0u8; 4096];
     let mut voice = [0u8; 4096];
-    let e = read_file(&rt, "example.flv", &mut example)?;
-    let v = read_file(&rt, "order32.flv", &mut voice)?;
+    let e = read_file(&rt, "example.flv", &mut example);
+    let v = read_file(&rt, "order32.flv", &mut voice);
     try_limits(&rt, &example[..e])?;
     try_call(&rt, &voice[..v])?;
     calls::try_empty(&rt, &example[..e])?;
