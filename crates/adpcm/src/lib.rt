@@ -106,12 +106,12 @@ impl AdpcmState {
         let sigpk = adpcm_predict::sigpk_of(dqsez);
         let tr = adpcm_predict::trans(self.td, self.yl, dq);
         Signals {
-            y: y,
-            dq: dq,
-            sr: sr,
+            y,
+            dq,
+            sr,
             pk0: dqsez / 32768,
-            sigpk: sigpk,
-            tr: tr,
+            sigpk,
+            tr,
         }
     }
 
@@ -139,15 +139,15 @@ impl AdpcmState {
             dms: v.dms,
             dml: v.dml,
             ap: v.ap,
-            a1: a1,
-            a2: a2,
+            a1,
+            a2,
             b: zeros,
             pk1: g.pk0,
             pk2: self.pk1,
             dq: delays,
             sr1: sr0,
             sr2: self.sr1,
-            td: td,
+            td,
         }
     }
 
@@ -159,10 +159,7 @@ impl AdpcmState {
         let g = self.signals_of(code);
         let byte = byte_of(g);
         let state = self.next_of(code, g);
-        Coded {
-            byte: byte,
-            state: state,
-        }
+        Coded { byte, state }
     }
 }
 
@@ -196,11 +193,9 @@ pub fn decode_adpcm(packed: &[u8], out: &mut [u8])
     ensures { out.new ≡ over (decoder.decoded packed.now) out.old }
 {
     let mut state = AdpcmState::fresh();
-    let mut k = 0;
-    while k < 2 * packed.len() {
+    for k in 0..2 * packed.len() {
         let coded = state.coded_of(code_at(packed, k));
         out[k] = coded.byte;
         state = coded.state;
-        k += 1;
     }
 }

@@ -42,6 +42,7 @@ pub fn sei(zeros: u32, a1: u16, sr1: u16, a2: u16, sr2: u16) -> u32
 }
 
 // A difference in two's complement.
+#[tactic(auto, unfolding(crate::specs::Predictor::dqi))]
 fn dqi(dq: u16) -> u32
     ensures { (result ≡ block.dqi dq) × (result < 65536) }
 {
@@ -54,6 +55,7 @@ fn dqi(dq: u16) -> u32
 }
 
 // ADDB, ADDC: a difference plus an estimate.
+#[tactic(auto, unfolding(crate::specs::Predictor::addb))]
 pub fn addb(dq: u16, se: u32) -> u16
     requires { se < 32768 }
     ensures { result ≡ block.addb dq se }
@@ -62,6 +64,7 @@ pub fn addb(dq: u16, se: u32) -> u16
 }
 
 // SIGPK: 1 where the sum of ADDC is 0.
+#[tactic(auto, unfolding(crate::specs::Predictor::sigpk_of))]
 pub fn sigpk_of(dqsez: u16) -> u16
     ensures { result ≡ block.sigpk_of dqsez }
 {
@@ -71,18 +74,17 @@ pub fn sigpk_of(dqsez: u16) -> u16
 // ---- the zeros' coefficients
 
 // UPB: the gain, by the signs of two differences.
+#[tactic(auto, unfolding(crate::specs::Predictor::ugb))]
 fn ugb(dq: u16, dqn: u16) -> u32
     ensures { (result ≡ block.ugb dq dqn) × (result < 65536) }
 {
     let d = dq as u32;
     if d % 32768 == 0 {
         0
+    } else if (d / 32768 + (dqn as u32) / 1024) % 2 == 0 {
+        128
     } else {
-        if (d / 32768 + (dqn as u32) / 1024) % 2 == 0 {
-            128
-        } else {
-            65408
-        }
+        65408
     }
 }
 
@@ -95,6 +97,7 @@ fn leaked(coefficient: u32, gain: u32, leak: u32) -> u16
 }
 
 // UPB: a zero's coefficient. Nothing saturates.
+#[tactic(auto, unfolding(crate::specs::Predictor::upb))]
 fn upb(dq: u16, dqn: u16, bn: u16) -> u16
     ensures { result ≡ block.upb dq dqn bn }
 {
@@ -126,6 +129,7 @@ pub fn zeros_of(dq: u16, dqs: [u16; 6], b: [u16; 6]) -> [u16; 6]
 // ---- the poles' coefficients
 
 // UPA2: 4 times the first coefficient, which is limited to 8191 on either side.
+#[tactic(auto, unfolding(crate::specs::Predictor::fa1))]
 fn fa1(a1: u16) -> u32
     ensures { (result ≡ block.fa1 a1) × (result < 131072) }
 {
@@ -147,6 +151,7 @@ fn fa(pks1: u16, a1: u16) -> u32
 }
 
 // UPA2: the gain.
+#[tactic(auto, unfolding(crate::specs::Predictor::uga2))]
 fn uga2(pks1: u16, pks2: u16, sigpk: u16, a1: u16) -> u32
     requires { (pks1 < 2) × (pks2 < 2) }
     ensures { (result ≡ block.uga2 pks1 pks2 sigpk a1) × (result < 65536) }
@@ -160,6 +165,7 @@ fn uga2(pks1: u16, pks2: u16, sigpk: u16, a1: u16) -> u32
 }
 
 // UPA2: the second coefficient.
+#[tactic(auto, unfolding(crate::specs::Predictor::upa2))]
 fn upa2(pks1: u16, pks2: u16, sigpk: u16, a1: u16, a2: u16) -> u16
     requires { (pks1 < 2) × (pks2 < 2) }
     ensures { result ≡ block.upa2 pks1 pks2 sigpk a1 a2 }
@@ -174,18 +180,22 @@ fn upa2(pks1: u16, pks2: u16, sigpk: u16, a1: u16, a2: u16) -> u16
 
 // LIMC: the second coefficient, limited. 32768 more puts the negative ones below the others, so
 // that no test is of the sign alone, which changes often.
+#[tactic(auto, unfolding(crate::specs::Predictor::limc))]
 fn limc(a2t: u16) -> u16
     ensures { result ≡ block.limc a2t }
 {
     let place = ((a2t as u32) + 32768) % 65536;
     if place < 20480 {
         53248
+    } else if 45056 < place {
+        12288
     } else {
-        if 45056 < place { 12288 } else { a2t }
+        a2t
     }
 }
 
 // UPA1: the gain, its sign by a product.
+#[tactic(auto, unfolding(crate::specs::Predictor::uga1))]
 fn uga1(pks1: u16, sigpk: u16) -> u32
     requires { pks1 < 2 }
     ensures { (result ≡ block.uga1 pks1 sigpk) × (result < 65536) }
@@ -198,6 +208,7 @@ fn uga1(pks1: u16, sigpk: u16) -> u32
 }
 
 // UPA1: the first coefficient.
+#[tactic(auto, unfolding(crate::specs::Predictor::upa1))]
 fn upa1(pks1: u16, sigpk: u16, a1: u16) -> u16
     requires { pks1 < 2 }
     ensures { result ≡ block.upa1 pks1 sigpk a1 }
@@ -207,6 +218,7 @@ fn upa1(pks1: u16, sigpk: u16, a1: u16) -> u16
 }
 
 // LIMD: the first coefficient, limited by the second.
+#[tactic(auto, unfolding(crate::specs::Predictor::limd))]
 fn limd(a1t: u16, a2p: u16) -> u16
     ensures { result ≡ block.limd a1t a2p }
 {
@@ -222,13 +234,16 @@ fn limd(a1t: u16, a2p: u16) -> u16
 // ---- tone and transition
 
 // TONE: 1 where the second coefficient says that a partial band signal is there.
+#[tactic(auto, unfolding(crate::specs::Predictor::tone))]
 fn tone(a2p: u16) -> u16
     ensures { result ≡ block.tone a2p }
 {
     if a2p < 32768 {
         0
+    } else if a2p < 53760 {
+        1
     } else {
-        if a2p < 53760 { 1 } else { 0 }
+        0
     }
 }
 
@@ -246,6 +261,7 @@ fn thr2(yl: u32) -> u32
 }
 
 // TRANS: 1 on a transition. The threshold is worked out only after a tone, which is seldom.
+#[tactic(auto, unfolding(crate::specs::Predictor::trans))]
 pub fn trans(td: u16, yl: u32, dq: u16) -> u16
     requires { yl < 524288 }
     ensures { result ≡ block.trans td yl dq }
@@ -260,6 +276,7 @@ pub fn trans(td: u16, yl: u32, dq: u16) -> u16
 }
 
 // The poles after a code.
+#[tactic(auto, unfolding(crate::specs::Predictor::poles_of))]
 pub fn poles_of(a1: u16, a2: u16, pk0: u16, pk1: u16, pk2: u16, sigpk: u16) -> Poles
     requires { (pk0 < 2) × ((pk1 < 2) × (pk2 < 2)) }
     ensures { result ≡ block.poles_of a1 a2 pk0 pk1 pk2 sigpk }

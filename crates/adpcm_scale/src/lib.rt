@@ -27,6 +27,7 @@ const WI: [u32; 8] = [4084, 18, 41, 64, 112, 198, 355, 1122];
 const FI: [u32; 8] = [0, 0, 0, 1, 1, 1, 3, 7];
 
 // The magnitude of a code, which is in one's complement.
+#[tactic(auto, unfolding(crate::specs::Scale::magnitude))]
 fn magnitude(code: usize) -> usize
     requires { code < 16 }
     ensures { (result ≡ block.magnitude code) × (result < 8) }
@@ -37,6 +38,7 @@ fn magnitude(code: usize) -> usize
 // ---- the inverse quantizer
 
 // RECONST: the logarithm of a code's magnitude.
+#[tactic(auto, unfolding(crate::specs::Scale::reconst))]
 fn reconst(code: usize) -> u32
     requires { code < 16 }
     ensures { (result ≡ block.reconst code) × (result < 4096) }
@@ -45,6 +47,7 @@ fn reconst(code: usize) -> u32
 }
 
 // ADDA: the scale added to it.
+#[tactic(auto, unfolding(crate::specs::Scale::adda))]
 fn adda(dqln: u32, y: u16) -> u32
     requires { dqln < 4096 }
     ensures { (result ≡ block.adda dqln y) × (result < 4096) }
@@ -81,6 +84,7 @@ pub fn dq_of(code: usize, y: u16) -> u16
 // ---- the scale factor
 
 // FUNCTW: how a code moves the fast scale factor.
+#[tactic(auto, unfolding(crate::specs::Scale::functw))]
 pub fn functw(code: usize) -> u32
     requires { code < 16 }
     ensures { (result ≡ block.functw code) × (result < 4096) }
@@ -89,6 +93,7 @@ pub fn functw(code: usize) -> u32
 }
 
 // FILTD: the fast scale factor.
+#[tactic(auto, unfolding(crate::specs::Scale::filtd))]
 pub fn filtd(wi: u32, y: u16) -> u32
     requires { (wi < 4096) × (y < 8192) }
     ensures { (result ≡ block.filtd wi y) × (result < 8192) }
@@ -99,18 +104,22 @@ pub fn filtd(wi: u32, y: u16) -> u32
 }
 
 // LIMB: the fast scale factor, limited.
+#[tactic(auto, unfolding(crate::specs::Scale::limb))]
 pub fn limb(yut: u32) -> u16
     requires { yut < 8192 }
     ensures { (result ≡ block.limb yut) × (result < 8192) }
 {
     if yut < 544 {
         544
+    } else if 5120 < yut {
+        5120
     } else {
-        if 5120 < yut { 5120 } else { yut as u16 }
+        yut as u16
     }
 }
 
 // FILTE: the slow scale factor.
+#[tactic(auto, unfolding(crate::specs::Scale::filte))]
 pub fn filte(yup: u16, yl: u32) -> u32
     requires { yl < 524288 }
     ensures { (result ≡ block.filte yup yl) × (result < 524288) }
@@ -143,6 +152,7 @@ fn mix(al: u32, yu: u16, yl: u32) -> u16
 }
 
 // LIMA: the speed control, limited.
+#[tactic(auto, unfolding(crate::specs::Scale::lima))]
 fn lima(ap: u16) -> u32
     ensures { (result ≡ block.lima ap) × (result ≤ 64) }
 {
@@ -161,6 +171,7 @@ pub fn scale_of(ap: u16, yu: u16, yl: u32) -> u16
 // ---- the speed control
 
 // FUNCTF: how fast a code says that the signal changes.
+#[tactic(auto, unfolding(crate::specs::Scale::functf))]
 pub fn functf(code: usize) -> u32
     requires { code < 16 }
     ensures { (result ≡ block.functf code) × (result < 8) }
@@ -169,6 +180,7 @@ pub fn functf(code: usize) -> u32
 }
 
 // FILTA: the short term average.
+#[tactic(auto, unfolding(crate::specs::Scale::filta))]
 fn filta(fi: u32, dms: u16) -> u16
     requires { (fi < 8) × (dms < 4096) }
     ensures { (result ≡ block.filta fi dms) × (result < 4096) }
@@ -179,6 +191,7 @@ fn filta(fi: u32, dms: u16) -> u16
 }
 
 // FILTB: the long term average.
+#[tactic(auto, unfolding(crate::specs::Scale::filtb))]
 fn filtb(fi: u32, dml: u16) -> u16
     requires { (fi < 8) × (dml < 16384) }
     ensures { (result ≡ block.filtb fi dml) × (result < 16384) }
@@ -189,6 +202,7 @@ fn filtb(fi: u32, dml: u16) -> u16
 }
 
 // SUBTC: how far the averages are apart.
+#[tactic(auto, unfolding(crate::specs::Scale::difm))]
 fn difm(dmsp: u16, dmlp: u16) -> u32
     requires { dmlp < 16384 }
     ensures { result ≡ block.difm dmsp dmlp }
@@ -202,23 +216,21 @@ fn difm(dmsp: u16, dmlp: u16) -> u32
 }
 
 // SUBTC: 0 where the adaptation may slow down.
+#[tactic(auto, unfolding(crate::specs::Scale::subtc))]
 fn subtc(dmsp: u16, dmlp: u16, tdp: u16, y: u16) -> u32
     requires { dmlp < 16384 }
     ensures { (result ≡ block.subtc dmsp dmlp tdp y) × (result < 2) }
 {
     let dif = difm(dmsp, dmlp);
-    if 1536 <= y {
-        if dif < (dmlp as u32) / 8 {
-            if tdp == 0 { 0 } else { 1 }
-        } else {
-            1
-        }
+    if 1536 <= y && dif < (dmlp as u32) / 8 && tdp == 0 {
+        0
     } else {
         1
     }
 }
 
 // FILTC: the speed control.
+#[tactic(auto, unfolding(crate::specs::Scale::filtc))]
 fn filtc(ax: u32, ap: u16) -> u16
     requires { (ax < 2) × (ap < 1024) }
     ensures { (result ≡ block.filtc ax ap) × (result < 1024) }
@@ -229,6 +241,7 @@ fn filtc(ax: u32, ap: u16) -> u16
 }
 
 // TRIGA: the fastest speed on a transition.
+#[tactic(auto, unfolding(crate::specs::Scale::triga))]
 fn triga(tr: u16, app: u16) -> u16
     requires { app < 1024 }
     ensures { (result ≡ block.triga tr app) × (result < 1024) }

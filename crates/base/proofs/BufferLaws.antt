@@ -7,7 +7,7 @@ use native.Mathlib.Nat.{zero-add, mul-zero, mul-suc, eq-or-lt_of_le, le_of_suc-l
 use native.Mathlib.Numerals.{add-one}
 use native.Mathlib.Omega.{arith}
 use lib.ListN.{length, take, drop, get_or, set, length-append, length-drop, drop_of_length-le, get_or-append}
-use lib.Seq.{ext_get_or, get_or_at, take-length, take-suc, length-take-le, take_at, drop_at, sets, sets-eq, take-append_seam, drop-append-add, drop-drop}
+use lib.Seq.{ext_get_or, get_or_at, take_at, drop_at, sets, sets-eq, take-append_seam, drop-append-add, drop-drop}
 use Rattle.base.specs.Buffers.{over, flat, upto}
 
 -- ---- over
@@ -144,22 +144,3 @@ module _ {A : Type 0} (f : ℕ → A) (n : ℕ) (d : List A) where
 
   pub length-stored : n ≤ length d → length (over (upto f n) d) ≡ length d
   length-stored h = length_over (upto f n) d (rw length-upto h)
-
--- a list that is copied element by element
-module _ {A : Type 0} (s d : List A) (h : length s ≤ length d) where
-  pub copied_none : d ≡ over (take 0 s) d
-  unfolding over
-  copied_none = refl
-
-  pub copied_more : (i : ℕ) (z : A) → i < length s → set (over (take i s) d) i (get_or s i z) ≡ over (take (i + 1) s) d
-  copied_more i z l =
-      let e : length (take i s) ≡ i = length-take-le i s (omega arith) in
-      let g : length (take i s) + 1 ≤ length d = omega arith in
-      let m : set (over (take i s) d) (length (take i s)) (get_or s i z) ≡ over (take i s ++ (get_or s i z ∷ [])) d = over-more (take i s) (get_or s i z ∷ []) d g in
-      rw e at m ∙ ap (λ (t : List A). over t d) (sym (ap (λ (n : ℕ). take n s) (add-one i) ∙ take-suc s i z l))
-
-  pub copied-length : (i : ℕ) → i ≤ length s → length (over (take i s) d) ≡ length d
-  copied-length i l = length_over (take i s) d (let e : length (take i s) ≡ i = length-take-le i s l in omega arith)
-
-  pub copied_all : (i : ℕ) → i ≡ length s → over (take i s) d ≡ over s d
-  copied_all i e = ap (λ (t : List A). over t d) (ap (λ (n : ℕ). take n s) e ∙ take-length s)

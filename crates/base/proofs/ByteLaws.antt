@@ -1,15 +1,18 @@
 -- Laws of little-endian numbers, at every width.
 use mathlib.Core.Path.{◌≡◌, refl, sym, ap, ◌∙◌}
 use mathlib.Core.List.{List, [], ◌∷◌, ◌++◌, append_assoc, append-nil}
-use Prim.Native.Nat.{ℕ, zero, suc, ◌+◌, ◌*◌, ◌/◌, ◌%◌, ◌^◌, ◌≤◌, ◌<◌}
+use Prim.Native.Nat.{ℕ, zero, suc, ◌+◌, ◌-◌, ◌*◌, ◌/◌, ◌%◌, ◌^◌, ◌≤◌, ◌<◌}
 use native.Mathlib.Nat.{zero-add, suc-add, add-suc, add-zero, mul-zero, mul-suc, mul_comm, mul_assoc, mul-add, pow-suc, pow-succ', mod-one, mod-lt, mod-eq_of_lt, div-one, div-add-mod, div-div-eq-div-mul, add-mul-mod_self_left, mul-pos, mul-le-mul_left, lt_of_lt_of_le, mul-div_cancel_left, le-div_iff_mul-le}
+use native.Mathlib.Numerals.{add-one}
 use native.Mathlib.Omega.{arith}
+use borrow.Rule.Slice.PartMut.{put_mid}
 use lib.ListN.{length, take, drop, get_or}
 use lib.Seq.{sets, sets-eq, drop-cons, drop_at, drop-drop, take-add, length-take-le, get_or-drop}
+use Rattle.std.specs.Int.{byte_at, byte_worth, bytes_low_first, sum_through}
 use Rattle.base.specs.Buffers.{flat, upto}
 use Rattle.base.specs.Bytes.{Bytes, little_endian, bytes_of, elements}
 use Rattle.base.specs.Lists.{part}
-use Rattle.base.proofs.BufferLaws.{sets-append, length-flat, flat-snoc, length-upto, get_or-upto, upto_is}
+use Rattle.base.proofs.BufferLaws.{length-flat, flat-snoc, length-upto, get_or-upto, upto_is}
 use Rattle.base.proofs.ListLaws.{get_or-part, length_part}
 
 pub power_pos : (k : ℕ) → 0 < 256 ^ k
@@ -49,13 +52,6 @@ little_endian-join (suc j) k s at =
     let e : at + suc j ≡ suc at + j = omega arith in
     rw (suc-add j k, e, pow-suc 256 j, swapped (256 ^ j) (little_endian k s (suc at + j)), little_endian-join j k s (suc at)) (omega arith)
 
-pub bytes_of-join : (j k v : ℕ) → bytes_of (j + k) v ≡ bytes_of j v ++ bytes_of k (v / 256 ^ j)
-unfolding bytes_of
-bytes_of-join zero k v = rw (zero-add k, div-one v)
-bytes_of-join (suc j) k v =
-    let e : v / 256 / 256 ^ j ≡ v / 256 ^ suc j = div-div-eq-div-mul v 256 (256 ^ j) ∙ ap (λ (n : ℕ). v / n) (mul_comm 256 (256 ^ j) ∙ sym (pow-suc 256 j)) in
-    rw (suc-add j k, ← e, bytes_of-join j k (v / 256))
-
 -- the lower part needs the low bytes alone
 pub bytes_of-low : (k v : ℕ) → bytes_of k (v % 256 ^ k) ≡ bytes_of k v
 unfolding bytes_of
@@ -66,11 +62,36 @@ bytes_of-low (suc k) v =
     let d : (v % 256 + 256 * (v / 256 % 256 ^ k)) / 256 ≡ v / 256 % 256 ^ k = omega arith in
     rw (e, m, d, bytes_of-low k (v / 256))
 
--- stores of the two parts are one store
-pub sets-join : (j k v : ℕ) (s : List ℕ) (at : ℕ) → sets (sets s at (bytes_of j (v % 256 ^ j))) (at + j) (bytes_of k (v / 256 ^ j)) ≡ sets s at (bytes_of (j + k) v)
-sets-join j k v s at =
-    let e : at + j ≡ at + length (bytes_of j v) = rw length-bytes_of in
-    rw (bytes_of-low, e, ← sets-append, ← bytes_of-join)
+-- ---- the machine's own bytes of a number
+
+-- a number that is read of the k + 1 bytes from place `at` on
+pub little_endian-read : (k : ℕ) (s : List ℕ) (at : ℕ) → sum_through (λ i. byte_worth i (get_or s (at + i) 0)) k ≡ little_endian (k + 1) s at
+unfolding little_endian
+little_endian-read zero s at =
+    let e : get_or s (at + 0) 0 ≡ get_or s at 0 + 256 * 0 = rw (add-zero at) (omega arith) in
+    e
+little_endian-read (suc k) s at =
+    let upper = little_endian-join (suc k) 1 s at in
+    let lower : sum_through (λ i. byte_worth i (get_or s (at + i) 0)) k ≡ little_endian (suc k) s at = rw add-one at (little_endian-read k s at) in
+    omega (arith, upper, lower, mul_comm (256 ^ suc k) (get_or s (at + suc k) 0))
+
+low_first : (i k v : ℕ) → bytes_low_first i k v ≡ bytes_of k (v / 256 ^ i)
+unfolding bytes_of
+low_first i zero v = refl
+low_first i (suc k) v =
+    let e : v / 256 ^ i / 256 ≡ v / 256 ^ suc i = div-div-eq-div-mul v (256 ^ i) 256 ∙ ap (λ (n : ℕ). v / n) (sym (pow-suc 256 i)) in
+    rw (e, byte_is i v, low_first (suc i) k v)
+  where
+    byte_is : (i v : ℕ) → byte_at i v ≡ v / 256 ^ i % 256
+    byte_is zero v = rw div-one
+    byte_is (suc i) v = refl
+
+-- the k bytes of v, copied to the part that begins at place `at`
+pub written : (k v : ℕ) (s copied : List ℕ) (at : ℕ) → at + k ≤ length s → copied ≡ bytes_low_first 0 k v → put_mid at (at + k - at) s copied ≡ sets s at (bytes_of k v)
+written k v s copied at h e =
+    let n : at + k - at ≡ k = omega arith in
+    let whole : at + length (bytes_of k v) ≤ length s = rw length-bytes_of h in
+    rw (n, e, low_first 0 k v, div-one v, sets-eq (bytes_of k v) s at whole, length-bytes_of, drop-drop, append_assoc)
 
 -- the same bytes are the same number
 pub little_endian-same : (k : ℕ) (s t : List ℕ) (at : ℕ) → ((j : ℕ) → at ≤ j → j < at + k → get_or s j 0 ≡ get_or t j 0) → little_endian k s at ≡ little_endian k t at

@@ -7,3 +7,4 @@ pub mod ByteLaws
 pub mod WordLaws
 pub mod TableLaws
 pub mod PermLaws
+pub mod ResultLaws

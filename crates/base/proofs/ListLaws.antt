@@ -1,4 +1,5 @@
 -- Laws of `every`, `first_failing`, `Heads`, parts of lists and lists of one element repeated.
+use Rattle.std.specs.Prelude.{None, Option, Some}
 use mathlib.Core.Path.{◌≡◌, refl, sym, ap, ◌∙◌}
 use mathlib.Core.Bool.{Bool, true, false, ◌&&◌}
 use mathlib.Core.List.{List, [], ◌∷◌, ◌++◌, append_assoc, append-nil}
@@ -6,7 +7,6 @@ use Prim.Native.Nat.{ℕ, zero, suc, ◌+◌, ◌≤◌, ◌<◌}
 use lib.ListN.{length, take, drop, get_or, replicate, length-drop}
 use lib.Seq.{get_or-take, get_or-drop, length-take-le, take-take, drop-drop}
 use native.Mathlib.Omega.{arith}
-use mathlib.Core.Option.{Option, none, some}
 use Rattle.base.specs.Lists.{every, first_failing, or_next, part, Heads}
 
 -- ---- tests
@@ -56,12 +56,12 @@ module _ {C : Type 0} (c : C) (cs : List (Bool × C)) where
   unfolding first_failing
   failing-passed t e = rw e
 
-  pub failing-here : (t : Bool) → t ≡ false → first_failing ((t, c) ∷ cs) ≡ some c
+  pub failing-here : (t : Bool) → t ≡ false → first_failing ((t, c) ∷ cs) ≡ Some c
   unfolding first_failing
   failing-here t e = rw e
 
   -- where no test fails, the first one passes, and none of the others fails
-  pub failing-none : (t : Bool) → first_failing ((t, c) ∷ cs) ≡ none → (t ≡ true) × (first_failing cs ≡ none)
+  pub failing-none : (t : Bool) → first_failing ((t, c) ∷ cs) ≡ None → (t ≡ true) × (first_failing cs ≡ None)
   unfolding first_failing
   failing-none true e = (refl, e)
   failing-none false e = let z : ◌≡◌ {A = ℕ} 0 1 = cc in absurd (omega arith)
@@ -70,9 +70,9 @@ module _ {C : Type 0} (c : C) (cs : List (Bool × C)) where
 
 module _ {C : Type 0} where
   -- where there is none, each is none
-  pub next-none : (c d : Option C) → or_next c d ≡ none → (c ≡ none) × (d ≡ none)
-  next-none none d e = (refl, e)
-  next-none (some c) d e = let z : ◌≡◌ {A = ℕ} 0 1 = cc in absurd (omega arith)
+  pub next-none : (c d : Option C) → or_next c d ≡ None → (c ≡ None) × (d ≡ None)
+  next-none None d e = (refl, e)
+  next-none (Some c) d e = let z : ◌≡◌ {A = ℕ} 0 1 = cc in absurd (omega arith)
 
 -- ---- parts
 

@@ -2,11 +2,11 @@
 use mathlib.Core.Path.{◌≡◌, refl, sym, ap, ◌∙◌}
 use mathlib.Core.Bool.{true, false, true≢false}
 use Prim.Native.Nat.{ℕ, zero, suc, ◌+◌, ◌-◌, ◌*◌, ◌/◌, ◌%◌, ◌^◌, ◌<◌, ◌≤◌}
-use native.Mathlib.Nat.{mod-lt, mod-eq_of_lt, mod_self, mod-mod, add-mod, mod-add-mod, add-mod-mod, mod-eq-sub-mod, mod-add-div, add-mul-mod_self_left, zero-mul, zero-mod, sub-zero, add-zero, add_assoc, add_comm, suc-mod, mul_comm, mul_assoc, mul-add, add-mul, lt_of_le_of_lt, div-le_self, le_of_lt, mul-le-mul_left, mul-lt-mul_of_pos_right}
+use native.Mathlib.Nat.{mod-lt, mod-eq_of_lt, mod_self, mod-mod, add-mod, mod-add-mod, add-mod-mod, mod-eq-sub-mod, mod-add-div, add-mul-mod_self_left, zero-mul, zero-mod, sub-zero, add-zero, add_assoc, add_comm, suc-mod, mul_comm, mul_assoc, mul-add, add-mul, lt_of_le_of_lt, div-le_self}
 use native.Mathlib.Omega.{arith}
 use borrow.Author.Tests.{lt-ltb, le-ltb, ltb-true}
 use lib.Dec.{T}
-use lib.Pow.{pow_pos, pow-add}
+use lib.Pow.{pow_pos}
 use lib.IntN.{ℤ, pos, negsuc, neg_ℤ, nat_abs, ◌*ℤ◌, ◌+ℤ◌, sub_ℕ}
 use lib.Signed.{lt_z, non_neg, mag, quot_z}
 use mir.Syntax.{Width}
@@ -193,9 +193,6 @@ module _ (w : Width) (z : ℤ) (h : SFits w z) where
             let f : (2 ^ bits w - 1) - (2 ^ bits w - suc n) ≡ n = omega arith in
             ap (to_z w) f ∙ to_z_pos w g.sfits
 
-    pub flipped-cast : T (non_neg (to_z w ((2 ^ bits w - 1) - of_z w z))) × Fits w (nat_abs (to_z w ((2 ^ bits w - 1) - of_z w z)))
-    flipped-cast = rw flipped (tt, record { fits = half_full w h.sfits })
-
     pub flipped_word : (2 ^ bits w - 1) - nat_abs (to_z w ((2 ^ bits w - 1) - of_z w z)) ≡ low (bits w) z
     unfolding low
     flipped_word = rw flipped (at z h (rw (to_z-of_z h) at t))
@@ -212,21 +209,10 @@ module _ (w : Width) (z : ℤ) (h : SFits w z) where
         at (pos n) g e = (tt, record { fits = half_full w g.sfits }, refl)
         at (negsuc n) g e = absurd (true≢false e)
 
-    pub natural-cast : T (non_neg (to_z w (of_z w z))) × Fits w (nat_abs (to_z w (of_z w z)))
-    natural-cast = rw (to_z-of_z h) (natural.0, natural.1)
-
     pub natural-word : nat_abs (to_z w (of_z w z)) ≡ low (bits w) z
     natural-word = rw (to_z-of_z h) (natural.2 ∙ sym (low_bits w z h))
 
-pub flipped-twice : (w : Width) (n : ℕ) → Fits w n → to_z w ((2 ^ bits w - 1) - ((2 ^ bits w - 1) - n)) ≡ to_z w n
-flipped-twice w n h =
-    let e : (2 ^ bits w - 1) - ((2 ^ bits w - 1) - n) ≡ n = omega (arith, h.fits) in
-    ap (to_z w) e
-
--- ---- the range of a product and of a quotient
-
-pub product_lt : (k : ℕ) {a b : ℕ} → a < 2 ^ k → b < 2 ^ k → a * b < 2 ^ (k + k)
-product_lt k {a} {b} ha hb = rw pow-add (lt_of_le_of_lt (mul-le-mul_left a (le_of_lt hb)) (mul-lt-mul_of_pos_right ha (pow_pos k)))
+-- ---- the range of a quotient
 
 minus-fits : (w : Width) (n m : ℕ) → n ≤ suc m → m < 2 ^ hbits w → SFits w (neg_ℤ (pos n))
 minus-fits w zero m h k = record { sfits = omega arith }

@@ -5,21 +5,11 @@ ghost use Rattle.std.proofs.lemmas.List.Edits.{sets};
 ghost use Rattle.base.specs.Buffers.{over};
 ghost use Rattle.base.specs.Bytes.{little_endian, bytes_of, u16_at, u32_at, u64_at};
 
-// A byte, with its bound.
-fn wide(byte: u8) -> u16
-    ensures { (result ≡ byte) × (result ≤ 255) }
-{
-    byte as u16
-}
-
 // The byte at a place, 0 past the end.
 pub fn byte_at(s: &[u8], at: usize) -> usize
     ensures { (result ≡ get_or s.now at 0) × (result ≤ 255) }
 {
-    if at < s.len() {
-        return s[at] as usize;
-    }
-    0
+    usize::from(s.get(at).copied().unwrap_or(0))
 }
 
 // The two bytes at place `at`.
@@ -27,7 +17,7 @@ pub fn read_u16(s: &[u8], at: usize) -> u16
     requires { at + 2 ≤ length s.now }
     ensures { result ≡ little_endian 2 s.now at }
 {
-    wide(s[at]) + 256 * wide(s[at + 1])
+    u16::from_le_bytes([s[at], s[at + 1]])
 }
 
 // The four bytes at place `at`.
@@ -35,7 +25,7 @@ pub fn read_u32(s: &[u8], at: usize) -> u32
     requires { at + 4 ≤ length s.now }
     ensures { result ≡ little_endian 4 s.now at }
 {
-    read_u16(s, at) as u32 + 65536 * (read_u16(s, at + 2) as u32)
+    u32::from_le_bytes([s[at], s[at + 1], s[at + 2], s[at + 3]])
 }
 
 // The eight bytes at place `at`.
@@ -43,7 +33,16 @@ pub fn read_u64(s: &[u8], at: usize) -> u64
     requires { at + 8 ≤ length s.now }
     ensures { result ≡ little_endian 8 s.now at }
 {
-    read_u32(s, at) as u64 + 4294967296 * (read_u32(s, at + 4) as u64)
+    u64::from_le_bytes([
+        s[at],
+        s[at + 1],
+        s[at + 2],
+        s[at + 3],
+        s[at + 4],
+        s[at + 5],
+        s[at + 6],
+        s[at + 7],
+    ])
 }
 
 // Element i of a packed array of u16.
@@ -75,8 +74,7 @@ pub fn write_u16(buf: &mut [u8], at: usize, v: u16)
     requires { at + 2 ≤ length buf.old }
     ensures { buf.new ≡ sets buf.old at (bytes_of 2 v) }
 {
-    buf[at] = (v % 256) as u8;
-    buf[at + 1] = (v / 256) as u8;
+    buf[at..at + 2].copy_from_slice(&v.to_le_bytes());
 }
 
 // Stores v in the four bytes at place `at`.
@@ -84,8 +82,7 @@ pub fn write_u32(buf: &mut [u8], at: usize, v: u32)
     requires { at + 4 ≤ length buf.old }
     ensures { buf.new ≡ sets buf.old at (bytes_of 4 v) }
 {
-    write_u16(buf, at, (v % 65536) as u16);
-    write_u16(buf, at + 2, (v / 65536) as u16);
+    buf[at..at + 4].copy_from_slice(&v.to_le_bytes());
 }
 
 // Stores v in the eight bytes at place `at`.
@@ -93,8 +90,7 @@ pub fn write_u64(buf: &mut [u8], at: usize, v: u64)
     requires { at + 8 ≤ length buf.old }
     ensures { buf.new ≡ sets buf.old at (bytes_of 8 v) }
 {
-    write_u32(buf, at, (v % 4294967296) as u32);
-    write_u32(buf, at + 4, (v / 4294967296) as u32);
+    buf[at..at + 8].copy_from_slice(&v.to_le_bytes());
 }
 
 // Stores v as element i of a packed array of u16.
@@ -126,9 +122,5 @@ pub fn copy(from: &[u8], buf: &mut [u8])
     requires { length from.now ≤ length buf.old }
     ensures { buf.new ≡ over from.now buf.old }
 {
-    let mut i = 0;
-    while i < from.len() {
-        buf[i] = from[i];
-        i += 1;
-    }
+    buf[..from.len()].copy_from_slice(from);
 }

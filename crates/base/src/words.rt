@@ -21,43 +21,35 @@ pub fn low32(word: u64) -> u32
 pub fn i16_to_word(x: i16) -> u16
     ensures { result ≡ low 16 x }
 {
-    if x < 0 { !((!x) as u16) } else { x as u16 }
+    i16::cast_unsigned(x)
 }
 
 // The word of an i32.
 pub fn i32_to_word(x: i32) -> u32
     ensures { result ≡ low 32 x }
 {
-    if x < 0 { !((!x) as u32) } else { x as u32 }
+    i32::cast_unsigned(x)
 }
 
 // The i16 of a word.
 pub fn word_to_i16(word: u16) -> i16
     ensures { result ≡ signed16 word }
 {
-    if word < 0x8000 {
-        word as i16
-    } else {
-        !((!word) as i16)
-    }
+    u16::cast_signed(word)
 }
 
 // The i32 of a word.
 pub fn word_to_i32(word: u32) -> i32
     ensures { result ≡ signed32 word }
 {
-    if word < 0x8000_0000 {
-        word as i32
-    } else {
-        !((!word) as i32)
-    }
+    u32::cast_signed(word)
 }
 
 // A product kept to 32 bits.
 pub fn wrapping_mul(a: u32, b: u32) -> u32
     ensures { result ≡ (a * b) % 2 ^ 32 }
 {
-    low32((a as u64) * (b as u64))
+    a.wrapping_mul(b)
 }
 
 // A word, read as signed, divided by 16384 towards zero.

@@ -1,9 +1,9 @@
 -- What `diphone_open` answers and leaves, case by case.
+use Rattle.std.specs.Prelude.{Err, None, Ok, Option, Some}
 use mathlib.Core.Path.{◌≡◌, refl, sym, ap, ◌∙◌}
 use mathlib.Core.Bool.{Bool, true, false}
 use mathlib.Core.List.{List, ◌++◌, append_assoc}
-use mathlib.Core.Option.{Option, none, some}
-use Prim.Native.Nat.{ℕ, ◌+◌, ◌≤◌, ◌<◌}
+use Prim.Native.Nat.{ℕ, ◌≤◌, ◌<◌}
 use native.Mathlib.Omega.{arith}
 use borrow.Author.Tests.{le-leb, lt-leb, leb-true}
 use lib.ListN.{length, take, length-append}
@@ -21,7 +21,6 @@ use Rattle.refusal.specs.declared.Refusal.{Refusal}
 use Rattle.refusal.specs.declared.Refusal.TheVariants.{ShortBuffer}
 use Rattle.refusal.specs.Number.{answer_of}
 use Rattle.voice.specs.declared.DiphoneVoice.{DiphoneVoice}
-use Rattle.voice.specs.declared.Opened.TheVariants.{Open, Refused}
 use Rattle.voice.specs.Header.{good_header}
 use Rattle.voice.specs.Voice.{places_of, voice_of}
 use Rattle.voice.specs.Periods.{decode_room}
@@ -39,31 +38,31 @@ Ends file index record' r new_index new_record =
 -- ---- a record that is too short
 
 -- 1 to 7, else 13, whatever the index has room for
-short-by : (x : Option Refusal) (t : Bool) → or_next (or_next x (pick t none (some ShortBuffer))) (some ShortBuffer) ≡ or_next x (some ShortBuffer)
-short-by none true = refl
-short-by none false = refl
-short-by (some c) t = refl
+short-by : (x : Option Refusal) (t : Bool) → or_next (or_next x (pick t None (Some ShortBuffer))) (Some ShortBuffer) ≡ or_next x (Some ShortBuffer)
+short-by None true = refl
+short-by None false = refl
+short-by (Some c) t = refl
 
 -- which is a refusal
-left_by : {x : Option Refusal} (y : Option Refusal) (new old : List ℕ) → x ≡ or_next y (some ShortBuffer) → old ≡ unless_refused x new old
-left_by none new old e = rw e
-left_by (some c) new old e = rw e
+left_by : {x : Option Refusal} (y : Option Refusal) (new old : List ℕ) → x ≡ or_next y (Some ShortBuffer) → old ≡ unless_refused x new old
+left_by None new old e = rw e
+left_by (Some c) new old e = rw e
 
 module _ (file index rec : List ℕ) (short : length rec < 56) where
-  refusal-short : refusal_of_open file (length index) (length rec) ≡ or_next (opening_refusal file) (some ShortBuffer)
+  refusal-short : refusal_of_open file (length index) (length rec) ≡ or_next (opening_refusal file) (Some ShortBuffer)
   unfolding refusal_of_open open_refusal
   refusal-short = let f = lt-leb 56 (length rec) short in rw f (short-by (opening_refusal file) (index_fits (voice_of file) (length index)))
 
-  pub short-ends : {r : ℕ} → r ≡ answer_of (or_next (opening_refusal file) (some ShortBuffer)) → Ends file index rec r index rec
+  pub short-ends : {r : ℕ} → r ≡ answer_of (or_next (opening_refusal file) (Some ShortBuffer)) → Ends file index rec r index rec
   short-ends q =
       let e = refusal-short in
       (q ∙ sym (ap answer_of e), (left_by (opening_refusal file) (index_bytes (voice_of file)) index e, left_by (opening_refusal file) (record_of file) rec e))
 
 -- ---- a record that is long enough
 
-next-none-is : (x : Option Refusal) → or_next x none ≡ x
-next-none-is none = refl
-next-none-is (some c) = refl
+next-none-is : (x : Option Refusal) → or_next x None ≡ x
+next-none-is None = refl
+next-none-is (Some c) = refl
 
 module _ (file index rec : List ℕ) (long : 56 ≤ length rec) where
   refusal-long : refusal_of_open file (length index) (length rec) ≡ open_refusal file (length index)
@@ -77,27 +76,27 @@ module _ (file index rec : List ℕ) (long : 56 ≤ length rec) where
       let e = sym refusal-long in
       (q ∙ ap answer_of e, (i ∙ ap (λ (x : Option Refusal). unless_refused x (index_bytes (voice_of file)) index) e, n ∙ ap (λ (x : Option Refusal). unless_refused x (record_of file) rec) e))
 
-opening-none : (file : List ℕ) (n : ℕ) → open_refusal file n ≡ none → opening_refusal file ≡ none
+opening-none : (file : List ℕ) (n : ℕ) → open_refusal file n ≡ None → opening_refusal file ≡ None
 unfolding open_refusal
 opening-none file n q = (next-none (opening_refusal file) _ q).0
 
 -- an opening that answers a voice
-pub opened-by : (file : List ℕ) (n : ℕ) (d : DiphoneVoice) → open_of file n ≡ Open d → IsOpen file d × (open_refusal file n ≡ none)
+pub opened-by : (file : List ℕ) (n : ℕ) (d : DiphoneVoice) → open_of file n ≡ Ok d → IsOpen file d × (open_refusal file n ≡ None)
 unfolding open_of
 opened-by file n d e = by (open_refusal file n) refl e
   where
-    by : (r : Option Refusal) → open_refusal file n ≡ r → answer_opening (places_of file) r ≡ Open d → IsOpen file d × (open_refusal file n ≡ none)
-    by none q e = (record { places = let s : places_of file ≡ d = cc in sym s; fit = opening-none file n q }, q)
-    by (some c) q e = absurd (let z : ◌≡◌ {A = ℕ} 0 1 = cc in omega arith)
+    by : (r : Option Refusal) → open_refusal file n ≡ r → answer_opening (places_of file) r ≡ Ok d → IsOpen file d × (open_refusal file n ≡ None)
+    by None q e = (record { places = let s : places_of file ≡ d = cc in sym s; fit = opening-none file n q }, q)
+    by (Some c) q e = absurd (let z : ◌≡◌ {A = ℕ} 0 1 = cc in omega arith)
 
 -- an opening that answers a refusal
-pub refused-by : (file : List ℕ) (n : ℕ) (c : Refusal) → open_of file n ≡ Refused c → open_refusal file n ≡ some c
+pub refused-by : (file : List ℕ) (n : ℕ) (c : Refusal) → open_of file n ≡ Err c → open_refusal file n ≡ Some c
 unfolding open_of
 refused-by file n c e = by (open_refusal file n) e
   where
-    by : (r : Option Refusal) → answer_opening (places_of file) r ≡ Refused c → r ≡ some c
-    by none e = absurd (let z : ◌≡◌ {A = ℕ} 0 1 = cc in omega arith)
-    by (some x) e = let s : x ≡ c = cc in ap (λ (y : Refusal). some y) s
+    by : (r : Option Refusal) → answer_opening (places_of file) r ≡ Err c → r ≡ Some c
+    by None e = absurd (let z : ◌≡◌ {A = ℕ} 0 1 = cc in omega arith)
+    by (Some x) e = let s : x ≡ c = cc in ap (λ (y : Refusal). Some y) s
 
 -- ---- the record
 

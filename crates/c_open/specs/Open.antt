@@ -1,6 +1,5 @@
 -- `diphone_open`: what it answers and what it leaves, by the bytes of the voice file.
-use Rattle.std.specs.Prelude.{List, ◌++◌, ℕ, leb, length, take}
-use Rattle.std.proofs.Math.Option.{Option, none, some}
+use Rattle.std.specs.Prelude.{List, ◌++◌, ℕ, leb, length, take, None, Option, Some}
 use Rattle.base.specs.Choice.{pick}
 use Rattle.base.specs.Text.{ascii}
 use Rattle.base.specs.Lists.{or_next}
@@ -25,7 +24,7 @@ record_length = 56
 
 -- 1 to 7, then 13 for an index of n bytes and for a record of m
 unfoldable pub refusal_of_open : List ℕ → ℕ → ℕ → Option Refusal
-refusal_of_open file n m = or_next (open_refusal file n) (pick (leb record_length m) none (some ShortBuffer))
+refusal_of_open file n m = or_next (open_refusal file n) (pick (leb record_length m) None (Some ShortBuffer))
 
 -- the index and the record afterwards
 abbrev pub index_left : List ℕ → List ℕ → ℕ → List ℕ

@@ -2,8 +2,7 @@
 // which is a word of the logic.
 #![tactic(auto)]
 
-ghost use Rattle.std.specs.Prelude.{◌≡◌, ◌≤◌, length};
-ghost use Rattle.std.proofs.Math.Option.{some};
+ghost use Rattle.std.specs.Prelude.{◌≡◌, ◌≤◌, length, Some};
 ghost use Rattle.base.specs.Lists.{or_next};
 ghost use Rattle.base.specs.Buffers.{over};
 ghost use Rattle.refusal.specs.Number.{answer_of};
@@ -11,7 +10,7 @@ ghost use Rattle.voice.specs.Opening.{IsOpen, opening_refusal};
 ghost use Rattle.c_open.specs.Open as opens;
 
 use refusal::Refusal;
-use voice::{DiphoneVoice, Opened};
+use voice::DiphoneVoice;
 
 // Fills the front of a voice record: the header's 40 bytes, the number of entries, the decode buffer's room.
 fn write_record(voice: &[u8], d: DiphoneVoice, report: &mut [u8])
@@ -26,11 +25,11 @@ fn write_record(voice: &[u8], d: DiphoneVoice, report: &mut [u8])
 
 // The number where the record is too short: 1 to 7 for the voice file, else 13.
 fn short_record(voice: &[u8]) -> u32
-    ensures { result ≡ answer_of (or_next (opening_refusal voice.now) (some Refusal.ShortBuffer)) }
+    ensures { result ≡ answer_of (or_next (opening_refusal voice.now) (Some Refusal.ShortBuffer)) }
 {
     match opening::check(voice) {
-        Opened::Open(opened) => refusal::number(Refusal::ShortBuffer),
-        Opened::Refused(cause) => refusal::number(cause),
+        Ok(opened) => u32::from(Refusal::ShortBuffer),
+        Err(cause) => u32::from(cause),
     }
 }
 
@@ -47,10 +46,10 @@ pub fn open_in_c(voice: &[u8], index: &mut [u8], report: &mut [u8]) -> u32
         return short_record(voice);
     }
     match opening::open(voice, index) {
-        Opened::Open(d) => {
+        Ok(d) => {
             write_record(voice, d, report);
             0
         }
-        Opened::Refused(cause) => refusal::number(cause),
+        Err(cause) => u32::from(cause),
     }
 }

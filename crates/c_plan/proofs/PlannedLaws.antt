@@ -1,8 +1,8 @@
 -- What `diphone_need` and `diphone_plan` answer and leave, case by case.
+use Rattle.std.specs.Prelude.{Err, None, Ok, Option, Some}
 use mathlib.Core.Path.{◌≡◌, refl, sym, ap, subst, ◌∙◌}
 use mathlib.Core.Bool.{Bool, true, false}
 use mathlib.Core.List.{List, [], ◌∷◌}
-use mathlib.Core.Option.{Option, none, some}
 use Prim.Native.Nat.{ℕ, ◌≤◌, ◌<◌}
 use native.Mathlib.Omega.{arith}
 use borrow.Author.Tests.{le-leb, lt-leb}
@@ -22,7 +22,6 @@ use Rattle.lpc.specs.declared.FilterState.{FilterState}
 use Rattle.call.specs.declared.Settings.{Settings}
 use Rattle.call.specs.declared.Need.{Need}
 use Rattle.call.specs.declared.Summary.{Summary}
-use Rattle.call.specs.declared.Called.TheVariants.{Spoken, Refused}
 use Rattle.call.specs.declared.Planned.{Planned}
 use Rattle.call.specs.Buffers.{Buffers, need_of, filled, fits, check_refusal, call_refusal, summary_of, fresh_of, answer_by, planned_of, over_all, left_by, buffers_after}
 use Rattle.base.specs.Buffers.{unless_refused}
@@ -34,9 +33,9 @@ use Rattle.c_plan.specs.Plan.{short_report, refusal_of_need, need_left, Handed, 
 -- ---- the answer 0
 
 -- 0 is no refusal's number
-pub answered-none : (u : Option Refusal) → 0 ≡ answer_of u → u ≡ none
-answered-none none e = refl
-answered-none (some c) e = absurd (let l = number-some c in omega arith)
+pub answered-none : (u : Option Refusal) → 0 ≡ answer_of u → u ≡ None
+answered-none None e = refl
+answered-none (Some c) e = absurd (let l = number-some c in omega arith)
 
 -- ---- diphone_need
 
@@ -44,22 +43,22 @@ abbrev pub NeedEnds : List ℕ → List ℕ → Settings → List ℕ → ℕ �
 NeedEnds file sheet o report r after = (r ≡ answer_of (refusal_of_need file sheet o (length report))) × (after ≡ need_left file sheet o report)
 
 module _ (file sheet : List ℕ) (o : Settings) (report : List ℕ) where
-  pub need-refused : (c : Refusal) (r : ℕ) → check_refusal file sheet o ≡ some c → r ≡ number_of c → NeedEnds file sheet o report r report
+  pub need-refused : (c : Refusal) (r : ℕ) → check_refusal file sheet o ≡ Some c → r ≡ number_of c → NeedEnds file sheet o report r report
   unfolding refusal_of_need
   need-refused c r e q = rw (e, q) (refl, refl)
 
-  pub need-passed : (n : Need) (r : ℕ) (after : List ℕ) → check_refusal file sheet o ≡ none → n ≡ need_of (voice_of file) (sheet_of sheet) o
+  pub need-passed : (n : Need) (r : ℕ) (after : List ℕ) → check_refusal file sheet o ≡ None → n ≡ need_of (voice_of file) (sheet_of sheet) o
       → r ≡ answer_of (short_report (length report)) → after ≡ unless_refused (short_report (length report)) (need_bytes n) report
       → NeedEnds file sheet o report r after
   unfolding refusal_of_need
   need-passed n r after e q a b = rw e (a, b ∙ ap (λ (m : Need). unless_refused (short_report (length report)) (need_bytes m) report) q)
 
 -- a report that is long enough, or not
-pub report-long : (n : ℕ) → 48 ≤ n → short_report n ≡ none
-report-long n h = ap (λ (t : Bool). pick t none (some ShortBuffer)) (le-leb 48 n h)
+pub report-long : (n : ℕ) → 48 ≤ n → short_report n ≡ None
+report-long n h = ap (λ (t : Bool). pick t None (Some ShortBuffer)) (le-leb 48 n h)
 
-pub report-short : (n : ℕ) → n < 48 → short_report n ≡ some ShortBuffer
-report-short n h = ap (λ (t : Bool). pick t none (some ShortBuffer)) (lt-leb 48 n h)
+pub report-short : (n : ℕ) → n < 48 → short_report n ≡ Some ShortBuffer
+report-short n h = ap (λ (t : Bool). pick t None (Some ShortBuffer)) (lt-leb 48 n h)
 
 -- ---- diphone_plan
 
@@ -77,27 +76,27 @@ module _ (file sheet : List ℕ) (o : Settings) (h : Handed) where
   unfolding handed_after
   by-refusal q r after e a b = (a ∙ sym (ap answer_of e), b ∙ sym (ap (handed_by file sheet o h) e))
 
-  pub plan-refused : (c : Refusal) (r : ℕ) → refusal_of_plan file sheet o h ≡ some c → r ≡ number_of c → PlanEnds file sheet o h r h
-  plan-refused c r e q = by-refusal (some c) r h e q refl
+  pub plan-refused : (c : Refusal) (r : ℕ) → refusal_of_plan file sheet o h ≡ Some c → r ≡ number_of c → PlanEnds file sheet o h r h
+  plan-refused c r e q = by-refusal (Some c) r h e q refl
 
   -- the check refuses
-  pub check-refused : (c : Refusal) → check_refusal file sheet o ≡ some c → refusal_of_plan file sheet o h ≡ some c
+  pub check-refused : (c : Refusal) → check_refusal file sheet o ≡ Some c → refusal_of_plan file sheet o h ≡ Some c
   unfolding refusal_of_plan call_refusal
   check-refused c e = rw e
 
   -- the state or the summary is short
-  by-short : enough ≡ false → check_refusal file sheet o ≡ none → refusal_of_plan file sheet o h ≡ some ShortBuffer
+  by-short : enough ≡ false → check_refusal file sheet o ≡ None → refusal_of_plan file sheet o h ≡ Some ShortBuffer
   unfolding refusal_of_plan call_refusal
   by-short e p = rw (p, e) (either (fits (voice_of file) (sheet_of sheet) o h.buffers))
     where
-      either : (t : Bool) → or_next (pick t none (some ShortBuffer)) (some ShortBuffer) ≡ some ShortBuffer
+      either : (t : Bool) → or_next (pick t None (Some ShortBuffer)) (Some ShortBuffer) ≡ Some ShortBuffer
       either true = refl
       either false = refl
 
-  pub state-short : length h.state < 168 → check_refusal file sheet o ≡ none → refusal_of_plan file sheet o h ≡ some ShortBuffer
+  pub state-short : length h.state < 168 → check_refusal file sheet o ≡ None → refusal_of_plan file sheet o h ≡ Some ShortBuffer
   state-short k p = by-short (every-fail _ _ (lt-leb 168 (length h.state) k)) p
 
-  pub summary-short : 168 ≤ length h.state → length h.summary < 48 → check_refusal file sheet o ≡ none → refusal_of_plan file sheet o h ≡ some ShortBuffer
+  pub summary-short : 168 ≤ length h.state → length h.summary < 48 → check_refusal file sheet o ≡ None → refusal_of_plan file sheet o h ≡ Some ShortBuffer
   summary-short j k p = by-short (every-pass _ _ (le-leb 168 (length h.state) j) ∙ every-fail _ _ (lt-leb 48 (length h.summary) k)) p
 
   -- both are long enough: it is the call's
@@ -105,27 +104,27 @@ module _ (file sheet : List ℕ) (o : Settings) (h : Handed) where
     pub by_call : refusal_of_plan file sheet o h ≡ call_refusal file sheet o h.buffers
     unfolding refusal_of_plan
     by_call =
-        ap (λ (t : Bool). or_next (call_refusal file sheet o h.buffers) (pick t none (some ShortBuffer))) (every-pass _ _ (le-leb 168 (length h.state) j) ∙ every_one _ ∙ le-leb 48 (length h.summary) k)
+        ap (λ (t : Bool). or_next (call_refusal file sheet o h.buffers) (pick t None (Some ShortBuffer))) (every-pass _ _ (le-leb 168 (length h.state) j) ∙ every_one _ ∙ le-leb 48 (length h.summary) k)
         ∙ none-next (call_refusal file sheet o h.buffers)
       where
-        none-next : (r : Option Refusal) → or_next r none ≡ r
-        none-next none = refl
-        none-next (some c) = refl
+        none-next : (r : Option Refusal) → or_next r None ≡ r
+        none-next None = refl
+        none-next (Some c) = refl
 
     pub call-refused : (p : Planned) (c : Refusal) (after : Buffers) (r : ℕ) → p ≡ planned_of file sheet o h.buffers → after ≡ buffers_after file sheet o h.buffers
-        → p.answer ≡ Refused c → r ≡ number_of c → PlanEnds file sheet o h r (record { buffers = after; state = h.state; summary = h.summary })
+        → p.answer ≡ Err c → r ≡ number_of c → PlanEnds file sheet o h r (record { buffers = after; state = h.state; summary = h.summary })
     unfolding planned_of buffers_after
     call-refused p c after r e l q n =
         let x = refused-by (call_refusal file sheet o h.buffers) (sym (ap (λ (p : Planned). p.answer) e) ∙ q) in
         let y : after ≡ h.buffers = l ∙ ap (left_by (filled (voice_of file) (sheet_of sheet) o) h.buffers) x in
-        by-refusal (some c) r _ (by_call ∙ x) n (ap (λ (b : Buffers). record { buffers = b; state = h.state; summary = h.summary }) y)
+        by-refusal (Some c) r _ (by_call ∙ x) n (ap (λ (b : Buffers). record { buffers = b; state = h.state; summary = h.summary }) y)
       where
-        refused-by : (u : Option Refusal) → (answer_by (voice_of file) (sheet_of sheet) o u).answer ≡ Refused c → u ≡ some c
-        refused-by none e = let z : ◌≡◌ {A = ℕ} 0 1 = cc in absurd (omega arith)
-        refused-by (some d) e = cc
+        refused-by : (u : Option Refusal) → (answer_by (voice_of file) (sheet_of sheet) o u).answer ≡ Err c → u ≡ Some c
+        refused-by None e = let z : ◌≡◌ {A = ℕ} 0 1 = cc in absurd (omega arith)
+        refused-by (Some d) e = cc
 
     pub call-spoken : (p : Planned) (m : Summary) (after : Buffers) (state summary : List ℕ) → p ≡ planned_of file sheet o h.buffers → after ≡ buffers_after file sheet o h.buffers
-        → p.answer ≡ Spoken m → state ≡ over (bytes_of_state p.state) h.state → summary ≡ over (summary_bytes m) h.summary
+        → p.answer ≡ Ok m → state ≡ over (bytes_of_state p.state) h.state → summary ≡ over (summary_bytes m) h.summary
         → PlanEnds file sheet o h 0 (record { buffers = after; state = state; summary = summary })
     unfolding planned_of buffers_after
     call-spoken p m after state summary e l q s t =
@@ -134,11 +133,11 @@ module _ (file sheet : List ℕ) (o : Settings) (h : Handed) where
         let y : after ≡ over_all (filled (voice_of file) (sheet_of sheet) o) h.buffers = l ∙ ap (left_by (filled (voice_of file) (sheet_of sheet) o) h.buffers) x.0 in
         let w = s ∙ ap (λ (a : FilterState). over (bytes_of_state a) h.state) f in
         let v = t ∙ ap (λ (a : Summary). over (summary_bytes a) h.summary) x.1 in
-        by-refusal none 0 _ (by_call ∙ x.0) refl (all_same y w v)
+        by-refusal None 0 _ (by_call ∙ x.0) refl (all_same y w v)
       where
-        spoken-by : (u : Option Refusal) → (answer_by (voice_of file) (sheet_of sheet) o u).answer ≡ Spoken m → (u ≡ none) × (m ≡ summary_of (voice_of file) (sheet_of sheet) o)
-        spoken-by none e = (refl, cc)
-        spoken-by (some d) e = let z : ◌≡◌ {A = ℕ} 0 1 = cc in absurd (omega arith)
+        spoken-by : (u : Option Refusal) → (answer_by (voice_of file) (sheet_of sheet) o u).answer ≡ Ok m → (u ≡ None) × (m ≡ summary_of (voice_of file) (sheet_of sheet) o)
+        spoken-by None e = (refl, cc)
+        spoken-by (Some d) e = let z : ◌≡◌ {A = ℕ} 0 1 = cc in absurd (omega arith)
 
         all_same : {a a' : Buffers} {b b' c c' : List ℕ} → a ≡ a' → b ≡ b' → c ≡ c' → ◌≡◌ {A = Handed} (record { buffers = a; state = b; summary = c }) (record { buffers = a'; state = b'; summary = c' })
         all_same p q r = cc

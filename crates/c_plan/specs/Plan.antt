@@ -1,6 +1,5 @@
 -- `diphone_need` and `diphone_plan`: what they answer and what they leave, by the bytes of the voice file and of the sheet.
-use Rattle.std.specs.Prelude.{List, [], ◌∷◌, ℕ, leb, length}
-use Rattle.std.proofs.Math.Option.{Option, none, some}
+use Rattle.std.specs.Prelude.{List, [], ◌∷◌, ℕ, leb, length, None, Option, Some}
 use Rattle.base.specs.Choice.{pick}
 use Rattle.base.specs.Lists.{every, or_next}
 use Rattle.refusal.specs.declared.Refusal.{Refusal}
@@ -17,7 +16,7 @@ use Rattle.c_state.specs.State.{state_length, bytes_of_state}
 
 -- 13 for a report of n bytes
 abbrev pub short_report : ℕ → Option Refusal
-short_report n = pick (leb report_length n) none (some ShortBuffer)
+short_report n = pick (leb report_length n) None (Some ShortBuffer)
 
 -- 1 to 12, 16 and 17 as the call has them, then 13 for a report of n bytes
 unfoldable pub refusal_of_need : List ℕ → List ℕ → Settings → ℕ → Option Refusal
@@ -43,7 +42,7 @@ handed index marks sizes rows excitation decoded state summary =
 unfoldable pub refusal_of_plan : List ℕ → List ℕ → Settings → Handed → Option Refusal
 refusal_of_plan file sheet o h =
     or_next (call_refusal file sheet o h.buffers)
-    (pick (every (leb state_length (length h.state) ∷ leb report_length (length h.summary) ∷ [])) none (some ShortBuffer))
+    (pick (every (leb state_length (length h.state) ∷ leb report_length (length h.summary) ∷ [])) None (Some ShortBuffer))
 
 -- all of it afterwards, by the refusal
 abbrev pub handed_by : List ℕ → List ℕ → Settings → Handed → Option Refusal → Handed

@@ -9,8 +9,6 @@ ghost use Rattle.call.specs.Numbers as numbers;
 ghost use Rattle.refusal.specs.Number.{answer_of};
 ghost use Rattle.c_plan.specs.Plan as plans;
 
-use checking::Checked;
-
 // How long each buffer of a call must be: 0, or the number of the refusal.
 pub fn need_in_c(voice: &[u8], sheet: &[u8], settings: u32, need: &mut [u8]) -> u32
     ensures value { result ≡ answer_of
@@ -20,8 +18,8 @@ pub fn need_in_c(voice: &[u8], sheet: &[u8], settings: u32, need: &mut [u8]) -> 
         plans.need_left voice.now sheet.now (numbers.settings_of settings) need.old }
 {
     match checking::check(voice, sheet, call::settings_of(settings)) {
-        Checked::Refused(cause) => refusal::number(cause),
-        Checked::Passed(fit) => planned::report_need(fit.need, need),
+        Err(cause) => u32::from(cause),
+        Ok(fit) => planned::report_need(fit.need, need),
     }
 }
 
@@ -51,8 +49,8 @@ pub fn plan_in_c(
 {
     let chosen = call::settings_of(settings);
     match checking::check(voice, sheet, chosen) {
-        Checked::Refused(cause) => refusal::number(cause),
-        Checked::Passed(fit) => planned::plan_handed(
+        Err(cause) => u32::from(cause),
+        Ok(fit) => planned::plan_handed(
             voice, sheet, chosen, fit, index, marks, sizes, rows, excitation, decoded, state,
             summary,
         ),

@@ -8,7 +8,7 @@ ghost use Rattle.refusal.specs.Number.{answer_of};
 ghost use Rattle.c_plan.specs.Reports as reports;
 ghost use Rattle.c_plan.specs.Plan as plans;
 
-use call::{Called, Need, Settings, Summary};
+use call::{Need, Settings, Summary};
 use checking::Fit;
 use refusal::Refusal;
 
@@ -19,16 +19,18 @@ pub(super) fn report_need(need: Need, report: &mut [u8]) -> u32
         unless_refused (plans.short_report (length report.old)) (reports.need_bytes need) report.old) }
 {
     if report.len() < 48 {
-        return refusal::number(Refusal::ShortBuffer);
+        return u32::from(Refusal::ShortBuffer);
     }
     super::reports::write_six(
         report,
-        need.entries as u64,
-        need.marks as u64,
-        need.periods as u64,
-        need.rows as u64,
-        need.excitation as u64,
-        need.decoded as u64,
+        [
+            need.entries as u64,
+            need.marks as u64,
+            need.periods as u64,
+            need.rows as u64,
+            need.excitation as u64,
+            need.decoded as u64,
+        ],
     );
     0
 }
@@ -40,12 +42,14 @@ fn write_summary(m: Summary, report: &mut [u8])
 {
     super::reports::write_six(
         report,
-        m.rate as u64,
-        m.periods as u64,
-        m.samples as u64,
-        m.marks as u64,
-        m.order as u64,
-        m.entries as u64,
+        [
+            m.rate as u64,
+            m.periods as u64,
+            m.samples as u64,
+            m.marks as u64,
+            m.order as u64,
+            m.entries as u64,
+        ],
     );
 }
 
@@ -77,10 +81,10 @@ pub(super) fn plan_handed(
         excitation.old decoded.old state.old summary.old) }
 {
     if state.len() < 168 {
-        return refusal::number(Refusal::ShortBuffer);
+        return u32::from(Refusal::ShortBuffer);
     }
     if summary.len() < 48 {
-        return refusal::number(Refusal::ShortBuffer);
+        return u32::from(Refusal::ShortBuffer);
     }
     let planned = planning::plan_checked(
         voice, sheet, settings, fit, index, marks, sizes, rows, excitation, decoded,
@@ -88,8 +92,8 @@ pub(super) fn plan_handed(
     let answer = planned.answer;
     let after = planned.state;
     match answer {
-        Called::Refused(cause) => refusal::number(cause),
-        Called::Spoken(m) => {
+        Err(cause) => u32::from(cause),
+        Ok(m) => {
             c_state::store(after, state);
             write_summary(m, summary);
             0

@@ -1,4 +1,5 @@
 -- A pull on the bytes of a state is a pull on the state.
+use Rattle.std.specs.Prelude.{Err}
 use mathlib.Core.Path.{◌≡◌, refl, sym, ap, subst, ◌∙◌}
 use mathlib.Core.Bool.{Bool, true, false}
 use mathlib.Core.List.{List, ◌++◌, append_assoc}
@@ -18,7 +19,6 @@ use Rattle.lpc.specs.declared.ResynthType.{ResynthType}
 use Rattle.lpc.specs.declared.ResynthType.TheVariants.{Fixed, Float as FloatType}
 use Rattle.lpc.specs.declared.FilterState.{FilterState}
 use Rattle.lpc.specs.State.{advanced}
-use Rattle.call.specs.declared.Answer.TheVariants.{Refused}
 use Rattle.call.specs.Pull.{Lent, all_given, possible, next_part, Outcome, leaves, pull_of}
 use Rattle.c_state.specs.State.{filter_number, state_of, head_bytes, bytes_of_state}
 use Rattle.c_pull.specs.Pull.{outcome_of, kept_by, state_left}
@@ -67,7 +67,7 @@ module _ (w : List ℕ) (s : FilterState) (held : HoldsState w s) (l : Lent) (d 
   pub outcome-held : outcome_of w l d ≡ pull_of s l d
   unfolding outcome_of
   outcome-held =
-      ap (λ (t : Bool). pick t (pull_of (state_of w) l d) (leaves (Refused BadState) (state_of w) d)) (is_state_lem w held.long held.filter_low)
+      ap (λ (t : Bool). pick t (pull_of (state_of w) l d) (leaves (Err BadState) (state_of w) d)) (is_state_lem w held.long held.filter_low)
       ∙ ap (λ (x : FilterState). pull_of x l d) held.says
 
   module _ (sizes_low : length l.sizes < 2 ^ 64) (excitation_low : length l.excitation < 2 ^ 64) where

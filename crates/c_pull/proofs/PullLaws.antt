@@ -1,8 +1,10 @@
 -- What `diphone_pull` answers and leaves, case by case.
+use Rattle.std.specs.Prelude.{Err, None, Ok, Option, Result, Some}
 use mathlib.Core.Path.{◌≡◌, sym, ap, ◌∙◌}
 use mathlib.Core.Bool.{Bool, true, false}
 use mathlib.Core.List.{List}
-use Prim.Native.Nat.{ℕ, zero, suc, ◌/◌, ◌≤◌, ◌<◌}
+use Prim.Native.Nat.{ℕ, zero, suc, ◌/◌, ◌^◌, ◌≤◌, ◌<◌}
+use native.Mathlib.Nat.{lt_of_le_of_lt}
 use native.Mathlib.Omega.{arith}
 use borrow.Author.Tests.{le-leb, lt-leb}
 use lib.Dec.{ltb}
@@ -21,10 +23,8 @@ use Rattle.refusal.specs.Number.{number_of}
 use Rattle.refusal.proofs.NumberLaws.{number-low}
 use Rattle.lpc.specs.declared.FilterState.{FilterState}
 use Rattle.lpc.specs.State.{advanced, spoken}
-use Rattle.call.specs.declared.Answer.{Answer}
-use Rattle.call.specs.declared.Answer.TheVariants.{Given, Done, Refused}
 use Rattle.call.specs.declared.Pulled.{Pulled}
-use Rattle.call.specs.Pull.{Lent, all_given, possible, next_part, Outcome, leaves, pull_of, pull_number}
+use Rattle.call.specs.Pull.{Lent, lent_of, all_given, possible, next_part, Outcome, leaves, pull_of, pull_number}
 use Rattle.c_state.specs.State.{state_of}
 use Rattle.c_pull.specs.Pull.{is_state, outcome_of, refused_number, number_for, kept_by, state_left, slice_left}
 
@@ -73,17 +73,17 @@ module _ (b : List ℕ) where
     -- bytes that are no state
     pub no-state-ends : (r : ℤ) → is_state b ≡ false → r ≡ refused_number BadState → Ends b l d r b d
     unfolding outcome_of
-    no-state-ends r e q = outcome-ends (leaves (Refused BadState) (state_of b) d) r (rw e) q
+    no-state-ends r e q = outcome-ends (leaves (Err BadState) (state_of b) d) r (rw e) q
 
     -- a pull that returned p, and answered a
-    pub pulled-ends : (r : ℤ) (p : Pulled) (a : Answer) (new_state new_slice : List ℕ) → is_state b ≡ true → p ≡ (pull_of (state_of b) l d).pulled → p.answer ≡ a
+    pub pulled-ends : (r : ℤ) (p : Pulled) (a : Result (Option ℕ) Refusal) (new_state new_slice : List ℕ) → is_state b ≡ true → p ≡ (pull_of (state_of b) l d).pulled → p.answer ≡ a
         → r ≡ pull_number a → new_state ≡ kept_by a p b → new_slice ≡ (pull_of (state_of b) l d).slice → Ends b l d r new_state new_slice
     unfolding outcome_of
     pulled-ends r p a new_state new_slice e q f n s t =
         let o = pull_of (state_of b) l d in
         let g : a ≡ o.pulled.answer = sym f ∙ ap (λ (x : Pulled). x.answer) q in
         let h = outcome-ends o r (rw e) (n ∙ ap pull_number g) in
-        (h.0, (s ∙ ap (λ (x : Answer). kept_by x p b) g ∙ ap (λ (x : Pulled). kept_by o.pulled.answer x b) q ∙ h.1.0, t ∙ h.1.1))
+        (h.0, (s ∙ ap (λ (x : Result (Option ℕ) Refusal). kept_by x p b) g ∙ ap (λ (x : Pulled). kept_by o.pulled.answer x b) q ∙ h.1.0, t ∙ h.1.1))
 
 -- ---- a pull, by its three tests
 
@@ -93,12 +93,12 @@ module _ (s : FilterState) (l : Lent) (d : List ℕ) where
   chosen t u v =
       let p = next_part s l in
       pick t
-      (pick u (leaves Done s d) (pick v (leaves (Refused ShortSlice) s d) (leaves (Given (length p.bytes)) (advanced s p) (over (flat (bytes_of 2) (spoken s p)) d))))
-      (leaves (Refused BadState) s d)
+      (pick u (leaves (Ok None) s d) (pick v (leaves (Err ShortSlice) s d) (leaves (Ok (Some (length p.bytes))) (advanced s p) (over (flat (bytes_of 2) (spoken s p)) d))))
+      (leaves (Err BadState) s d)
 
 -- a period given has no more samples than the excitation has bytes
 module _ (s : FilterState) (l : Lent) (d : List ℕ) (n : ℕ) where
-  by-test : (t u v : Bool) → (chosen s l d t u v).pulled.answer ≡ Given n → n ≤ length l.excitation
+  by-test : (t u v : Bool) → (chosen s l d t u v).pulled.answer ≡ Ok (Some n) → n ≤ length l.excitation
   unfolding next_part
   by-test true true v e = let z : ◌≡◌ {A = ℕ} 0 1 = cc in absurd (omega arith)
   by-test true false true e = let z : ◌≡◌ {A = ℕ} 0 1 = cc in absurd (omega arith)
@@ -107,6 +107,22 @@ module _ (s : FilterState) (l : Lent) (d : List ℕ) (n : ℕ) where
       rw (q, length-take, length-drop) (omega arith)
   by-test false u v e = let z : ◌≡◌ {A = ℕ} 0 1 = cc in absurd (omega arith)
 
-  pub given-low : (pull_of s l d).pulled.answer ≡ Given n → n ≤ length l.excitation
+  pub given-low : (pull_of s l d).pulled.answer ≡ Ok (Some n) → n ≤ length l.excitation
   unfolding pull_of
   given-low e = by-test (possible s l) (all_given s l) (ltb (length d / 2) (length (next_part s l).bytes)) e
+
+-- the count of samples that a pull gave fits an i64
+pub given-fits : (s : FilterState) (sizes rows excitation d : List ℕ) (n : ℕ) {p : Pulled} → p ≡ (pull_of s (lent_of sizes rows excitation) d).pulled → p.answer ≡ Ok (Some n)
+    → length excitation < 2 ^ 63 → n < 2 ^ 63
+unfolding lent_of
+given-fits s sizes rows excitation d n e f h =
+    let l = given-low s (lent_of sizes rows excitation) d n (sym (ap (λ (x : Pulled). x.answer) e) ∙ f) in
+    lt_of_le_of_lt l h
+
+-- a pull by the state that the bytes say
+module _ (l : Lent) (d : List ℕ) {s t : FilterState} (e : s ≡ t) where
+  pub pulled-by : {p : Pulled} → p ≡ (pull_of s l d).pulled → p ≡ (pull_of t l d).pulled
+  pulled-by h = h ∙ ap (λ (x : FilterState). (pull_of x l d).pulled) e
+
+  pub slice-by : {b : List ℕ} → b ≡ (pull_of s l d).slice → b ≡ (pull_of t l d).slice
+  slice-by h = h ∙ ap (λ (x : FilterState). (pull_of x l d).slice) e

@@ -5,14 +5,13 @@ ghost use Rattle.std.specs.Prelude.{◌≡◌};
 ghost use Rattle.call.specs.Pull.{lent_of};
 ghost use Rattle.c_pull.specs.Pull as pulls;
 
-use call::Answer;
 use refusal::Refusal;
 
 // Minus the number of a refusal.
 fn minus_number(cause: Refusal) -> i64
     ensures { result ≡ pulls.refused_number cause }
 {
-    0 - (refusal::number(cause) as i64)
+    0 - (u32::from(cause) as i64)
 }
 
 // Pulls the next period: how many samples it gave, -1 for done, or minus the number of the refusal.
@@ -43,11 +42,11 @@ pub fn pull_in_c(
     let answer = pulled.answer;
     let after = pulled.state;
     match answer {
-        Answer::Given(n) => {
+        Ok(Some(n)) => {
             c_state::store(after, state);
             n as i64
         }
-        Answer::Done => -1,
-        Answer::Refused(cause) => minus_number(cause),
+        Ok(None) => -1,
+        Err(cause) => minus_number(cause),
     }
 }

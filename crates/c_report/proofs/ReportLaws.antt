@@ -1,4 +1,5 @@
 -- What `diphone_report` answers and leaves, and that its filter plays no part.
+use Rattle.std.specs.Prelude.{Err, Ok, Result}
 use mathlib.Core.Path.{◌≡◌, sym, ap, subst, ◌∙◌}
 use mathlib.Core.List.{List}
 use Prim.Native.Nat.{ℕ, ◌/◌, ◌%◌}
@@ -7,8 +8,6 @@ use Rattle.refusal.specs.declared.Refusal.{Refusal}
 use Rattle.refusal.specs.Number.{number_of, answer_of}
 use Rattle.call.specs.declared.Settings.{Settings}
 use Rattle.call.specs.Numbers.{join_of, is_set, settings_of}
-use Rattle.reporting.specs.declared.Reported.{Reported}
-use Rattle.reporting.specs.declared.Reported.TheVariants.{Made, Refused}
 use Rattle.reporting.specs.Report.{refusal_of_report, reported_of, lines_left}
 use Rattle.reporting.specs.Claims.{AnyFilter}
 use Rattle.reporting.proofs.ReportLaws.{any-filter}
@@ -18,14 +17,14 @@ use Rattle.reporting.proofs.AnswerLaws.{reported-refused, reported-made}
 abbrev pub ReportEnds : List ℕ → List ℕ → Settings → List ℕ → ℕ → List ℕ → Type 0
 ReportEnds file sheet o old answer after = (answer ≡ answer_of (refusal_of_report file sheet o (length old))) × (after ≡ lines_left file sheet o old)
 
-module _ (file sheet : List ℕ) (o o₁ : Settings) (is : o ≡ o₁) (old : List ℕ) (r : Reported) (e : r ≡ reported_of file sheet o (length old))
+module _ (file sheet : List ℕ) (o o₁ : Settings) (is : o ≡ o₁) (old : List ℕ) (r : Result ℕ Refusal) (e : r ≡ reported_of file sheet o (length old))
     (after : List ℕ) (left : after ≡ lines_left file sheet o old) where
-  pub report-refused : (c : Refusal) → r ≡ Refused c → (answer : ℕ) → answer ≡ number_of c → ReportEnds file sheet o₁ old answer after
+  pub report-refused : (c : Refusal) → r ≡ Err c → (answer : ℕ) → answer ≡ number_of c → ReportEnds file sheet o₁ old answer after
   report-refused c q answer n =
       subst (λ (s : Settings). ReportEnds file sheet s old answer after) is
       (n ∙ sym (ap answer_of (reported-refused file sheet o (length old) r e c q)), left)
 
-  pub report-made : (k : ℕ) → r ≡ Made k → ReportEnds file sheet o₁ old 0 after
+  pub report-made : (k : ℕ) → r ≡ Ok k → ReportEnds file sheet o₁ old 0 after
   report-made k q =
       subst (λ (s : Settings). ReportEnds file sheet s old 0 after) is
       (sym (ap answer_of (reported-made file sheet o (length old) r e k q).0), left)

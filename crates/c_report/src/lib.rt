@@ -6,8 +6,6 @@ ghost use Rattle.call.specs.Numbers as numbers;
 ghost use Rattle.refusal.specs.Number.{answer_of};
 ghost use Rattle.reporting.specs.Report as reports;
 
-use reporting::Reported;
-
 // Makes the report of a call: 0, or the number of the refusal.
 pub fn report_in_c(voice: &[u8], sheet: &[u8], settings: u32, lines: &mut [u8]) -> u32
     ensures value { result ≡ answer_of
@@ -17,7 +15,7 @@ pub fn report_in_c(voice: &[u8], sheet: &[u8], settings: u32, lines: &mut [u8]) 
         reports.lines_left voice.now sheet.now (numbers.settings_of settings) lines.old }
 {
     match reporting::report(voice, sheet, call::settings_of(settings), lines) {
-        Reported::Refused(cause) => refusal::number(cause),
-        Reported::Made(_) => 0,
+        Err(cause) => u32::from(cause),
+        Ok(_) => 0,
     }
 }

@@ -2,3 +2,4 @@
 pub mod StateLaws
 pub mod RoundLaws
 pub mod StorableLaws
+pub mod ArrayLaws

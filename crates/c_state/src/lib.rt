@@ -1,40 +1,29 @@
 // A filter state in bytes, as a program in C keeps it.
 #![tactic(auto)]
 
-ghost use Rattle.std.specs.Prelude.{◌≡◌, ◌≤◌, length, get_or};
-ghost use Rattle.std.specs.Float.{nan, binary32};
-ghost use Rattle.std.specs.Float.Ieee.{of_bits, to_bits};
+ghost use Rattle.std.specs.Prelude.{◌≡◌, ◌≤◌, length};
+ghost use Rattle.std.specs.Float.{binary32};
+ghost use Rattle.std.specs.Float.Ieee.{of_bits};
 ghost use Rattle.base.specs.Buffers.{over, upto};
 ghost use Rattle.c_state.specs.State as states;
 
 use lpc::{FilterState, ResynthType};
+use std::array;
 
 // The history's words.
-fn load_fixed(buf: &[u8]) -> [u32; 33]
+fn load_words(buf: &[u8]) -> [u32; 33]
     requires { 168 ≤ length buf.now }
     ensures { result ≡ upto (states.history_at buf.now) 33 }
 {
-    let mut history = [0u32; 33];
-    let mut i = 0usize;
-    while i < 33 {
-        history[i] = base::bytes::read_u32(buf, 36 + 4 * i);
-        i += 1;
-    }
-    history
+    array::from_fn(|i| base::bytes::read_u32(buf, 36 + 4 * i))
 }
 
 // The history's floats.
-fn load_float(buf: &[u8]) -> [f32; 33]
+fn load_floats(buf: &[u8]) -> [f32; 33]
     requires { 168 ≤ length buf.now }
     ensures { result ≡ upto (λ i. of_bits binary32 (states.history_at buf.now i)) 33 }
 {
-    let mut history = [0.0f32; 33];
-    let mut i = 0usize;
-    while i < 33 {
-        history[i] = float::f32_from_word(base::bytes::read_u32(buf, 36 + 4 * i));
-        i += 1;
-    }
-    history
+    load_words(buf).map(float::f32_from_word)
 }
 
 // The state, its histories 0.
@@ -45,11 +34,12 @@ fn load_head(buf: &[u8], filter: ResynthType) -> FilterState
     let order = base::bytes::read_u32(buf, 4) as usize;
     let coeff_min = float::f32_from_word(base::bytes::read_u32(buf, 12));
     let coeff_range = float::f32_from_word(base::bytes::read_u32(buf, 16));
-    let mut state = FilterState::fresh(filter, order, coeff_min, coeff_range);
-    state.ring_place = base::bytes::read_u32(buf, 8) as usize;
-    state.period = base::bytes::read_u64(buf, 20) as usize;
-    state.sample_place = base::bytes::read_u64(buf, 28) as usize;
-    state
+    FilterState {
+        ring_place: base::bytes::read_u32(buf, 8) as usize,
+        period: base::bytes::read_u64(buf, 20) as usize,
+        sample_place: base::bytes::read_u64(buf, 28) as usize,
+        ..FilterState::fresh(filter, order, coeff_min, coeff_range)
+    }
 }
 
 // The state that bytes say.
@@ -58,54 +48,25 @@ pub fn load(buf: &[u8]) -> FilterState
     ensures { result ≡ states.state_of buf.now }
 {
     if base::bytes::read_u32(buf, 0) == 0 {
-        let mut state = load_head(buf, ResynthType::Fixed);
-        let history = load_fixed(buf);
-        state.fixed = history;
-        return state;
+        FilterState {
+            fixed: load_words(buf),
+            ..load_head(buf, ResynthType::Fixed)
+        }
+    } else {
+        FilterState {
+            float: load_floats(buf),
+            ..load_head(buf, ResynthType::Float)
+        }
     }
-    let mut state = load_head(buf, ResynthType::Float);
-    let history = load_float(buf);
-    state.float = history;
-    state
-}
-
-// The number of a filter.
-fn filter_number(filter: ResynthType) -> u32
-    ensures { result ≡ states.filter_number filter }
-{
-    match filter {
-        ResynthType::Fixed => 0,
-        ResynthType::Float => 1,
-    }
-}
-
-// The bits of a history's floats.
-fn float_words(history: &[f32; 33]) -> [u32; 33]
-    ensures { result ≡ upto (λ i. to_bits binary32 (get_or history.now i nan)) 33 }
-{
-    let mut words = [0u32; 33];
-    let mut i = 0usize;
-    while i < 33 {
-        words[i] = float::f32_to_word(history[i]);
-        i += 1;
-    }
-    words
 }
 
 // The history of the state's filter, as words.
 fn words_of(state: FilterState) -> [u32; 33]
     ensures { result ≡ upto (states.word_of state) 33 }
 {
-    let filter = state.filter;
-    match filter {
-        ResynthType::Fixed => {
-            let history = state.fixed;
-            history
-        }
-        ResynthType::Float => {
-            let history = state.float;
-            float_words(&history)
-        }
+    match state.filter {
+        ResynthType::Fixed => state.fixed,
+        ResynthType::Float => state.float.map(float::f32_to_word),
     }
 }
 
@@ -114,8 +75,7 @@ fn store_head(state: FilterState, buf: &mut [u8])
     requires { 36 ≤ length buf.old }
     ensures { buf.new ≡ over (states.head_bytes state) buf.old }
 {
-    let filter = state.filter;
-    base::bytes::write_u32(buf, 0, filter_number(filter));
+    base::bytes::write_u32(buf, 0, state.filter as u32);
     base::bytes::write_u32(buf, 4, base::words::low32(state.order as u64));
     base::bytes::write_u32(buf, 8, base::words::low32(state.ring_place as u64));
     base::bytes::write_u32(buf, 12, float::f32_to_word(state.coeff_min));
@@ -129,11 +89,8 @@ fn store_history(state: FilterState, buf: &mut [u8])
     requires { 132 ≤ length buf.old }
     ensures { buf.new ≡ over (states.history_bytes state) buf.old }
 {
-    let words = words_of(state);
-    let mut i = 0usize;
-    while i < 33 {
-        base::bytes::put_u32(buf, i, words[i]);
-        i += 1;
+    for (i, word) in words_of(state).iter().enumerate() {
+        base::bytes::put_u32(buf, i, *word);
     }
 }
 

@@ -1,8 +1,8 @@
 -- The periods of a call head those of a call on an extended voice with a longer sheet.
+use Rattle.std.specs.Prelude.{None}
 use mathlib.Core.Path.{◌≡◌, refl, sym, ap, ◌∙◌}
 use mathlib.Core.Bool.{Bool, true, false}
 use mathlib.Core.List.{List, [], ◌∷◌, map, map-append}
-use mathlib.Core.Option.{none}
 use Prim.Native.Nat.{ℕ, ◌≤◌}
 use native.Mathlib.Omega.{arith}
 use borrow.Author.Tests.{ltb-false, le-ltb}
@@ -145,7 +145,7 @@ module _ (v : Voice) where
   unfolding simple_plan
   simple-ahead us us' h = rw h.whole (record { units = marks.units-append v 0 us h.more; marks = marks.natural-append v 0 us h.more })
 
-  modified-ahead : (us us' : List Unit) (ts ts' : List Target) → Heads us us' → Heads ts ts' → (modified_plan v us ts).refusal ≡ none → Ahead (modified_plan v us ts) (modified_plan v us' ts')
+  modified-ahead : (us us' : List Unit) (ts ts' : List Target) → Heads us us' → Heads ts ts' → (modified_plan v us ts).refusal ≡ None → Ahead (modified_plan v us ts) (modified_plan v us' ts')
   unfolding modified_plan
   modified-ahead us us' ts ts' h k e = record { units = h; marks = rw k.whole (marks.marks-append v.header.rate ts k.more (next-none (end_refusal us) _ e).1) }
 
@@ -153,18 +153,18 @@ module _ (v : Voice) where
     us-ahead : Heads (units_of v (folded o.fold s.segments)) (units_of v (folded o.fold t.segments))
     us-ahead = let e = g.segments.whole in rw e (units.units-append v o.fold s.segments g.segments.more r)
 
-    by-ahead : (j : JoinType) → (plan_by j v (folded o.fold s.segments) s.targets).refusal ≡ none
+    by-ahead : (j : JoinType) → (plan_by j v (folded o.fold s.segments) s.targets).refusal ≡ None
         → Ahead (plan_by j v (folded o.fold s.segments) s.targets) (plan_by j v (folded o.fold t.segments) t.targets)
     unfolding plan_by
     by-ahead None e = ahead-nil _
     by-ahead Simple e = simple-ahead _ _ us-ahead
     by-ahead ModifiedLpc e = modified-ahead _ _ s.targets t.targets us-ahead g.targets e
 
-    plan-ahead : (plan_of v s o).refusal ≡ none → Ahead (plan_of v s o) (plan_of v t o)
+    plan-ahead : (plan_of v s o).refusal ≡ None → Ahead (plan_of v s o) (plan_of v t o)
     unfolding plan_of
     plan-ahead e = by (ltb (length s.segments) 2) refl e
       where
-        by : (c : Bool) → ltb (length s.segments) 2 ≡ c → (two_segments c (plan_by o.join v (folded o.fold s.segments) s.targets)).refusal ≡ none
+        by : (c : Bool) → ltb (length s.segments) 2 ≡ c → (two_segments c (plan_by o.join v (folded o.fold s.segments) s.targets)).refusal ≡ None
             → Ahead (two_segments c (plan_by o.join v (folded o.fold s.segments) s.targets)) (plan_of v t o)
         by true c e = ahead-nil _
         by false c e =
@@ -172,10 +172,10 @@ module _ (v : Voice) where
             let m : 2 ≤ length t.segments = rw (g.segments.whole, length-append) (omega arith) in
             rw (le-ltb (length t.segments) 2 m, plan_of) (by-ahead o.join e)
 
-    pub marks-ahead : (plan_of v s o).refusal ≡ none → Heads (plan_of v s o).marks (plan_of v t o).marks
+    pub marks-ahead : (plan_of v s o).refusal ≡ None → Heads (plan_of v s o).marks (plan_of v t o).marks
     marks-ahead e = (plan-ahead e).marks
 
-    pub taken-ahead : (plan_of v s o).refusal ≡ none → Heads (periods_taken v s o) (periods_taken v t o)
+    pub taken-ahead : (plan_of v s o).refusal ≡ None → Heads (periods_taken v s o) (periods_taken v t o)
     unfolding periods_taken
     taken-ahead e =
         let p = plan-ahead e in
@@ -186,10 +186,10 @@ module _ (v : Voice) where
 -- ---- both
 
 module _ (v w : Voice) (x : Extends w v) (a : Opens v) (b : Opens w) (s t : Sheet) (g : Begins t s) (r : Refers (length s.segments) s.segments) (o : Settings)
-    (found : first_tried_found v o.fold s.segments ≡ true) (e : (plan_of v s o).refusal ≡ none) where
+    (found : first_tried_found v o.fold s.segments ≡ true) (e : (plan_of v s o).refusal ≡ None) where
   pub periods-ahead : Heads (periods_of v s o) (periods_of w t o)
   periods-ahead =
-      let p : (plan_of w s o).refusal ≡ none = rw (plan-same v w x a b s o found) e in
+      let p : (plan_of w s o).refusal ≡ None = rw (plan-same v w x a b s o found) e in
       let q : Heads (periods_taken w s o) (periods_taken w t o) = taken-ahead w s t g r o p in
       let c = taken-periods-same v w x a b s o found in
       let d : Heads (periods_taken v s o) (periods_taken w t o) = rw c at q in

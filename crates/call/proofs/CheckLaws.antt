@@ -1,8 +1,8 @@
 -- What refuses a call, apart from its buffers, and what a call that is not refused has passed.
+use Rattle.std.specs.Prelude.{None, Some}
 use mathlib.Core.Path.{◌≡◌, refl, ap, ◌∙◌}
 use mathlib.Core.Bool.{Bool, true, false, not}
 use mathlib.Core.List.{List}
-use mathlib.Core.Option.{none, some}
 use Prim.Native.Nat.{ℕ}
 use Rattle.base.specs.Choice.{pick}
 use Rattle.base.proofs.ListLaws.{next-none}
@@ -18,36 +18,36 @@ use Rattle.call.specs.Buffers.{check_refusal}
 -- ---- 16
 
 module _ (v : Voice) (s : Sheet) (o : Settings) where
-  pub missing-loose : o.strict ≡ false → missing_refusal v s o ≡ none
+  pub missing-loose : o.strict ≡ false → missing_refusal v s o ≡ None
   unfolding missing_refusal
   missing-loose e = rw e
 
-  pub missing-strict : o.strict ≡ true → missing_refusal v s o ≡ pick (tried_found v o.fold s.segments) none (some MissingPair)
+  pub missing-strict : o.strict ≡ true → missing_refusal v s o ≡ pick (tried_found v o.fold s.segments) None (Some MissingPair)
   unfolding missing_refusal
   missing-strict e = rw e (by (tried_found v o.fold s.segments))
     where
-      by : (t : Bool) → pick (not t) (some MissingPair) none ≡ pick t none (some MissingPair)
+      by : (t : Bool) → pick (not t) (Some MissingPair) None ≡ pick t None (Some MissingPair)
       by true = refl
       by false = refl
 
   -- it decides, whatever the target ends and the marks are
-  pub pair-first : o.strict ≡ true → tried_found v o.fold s.segments ≡ false → read_refusal v s o ≡ some MissingPair
+  pub pair-first : o.strict ≡ true → tried_found v o.fold s.segments ≡ false → read_refusal v s o ≡ Some MissingPair
   unfolding read_refusal
-  pair-first e f = let m = missing-strict e ∙ ap (λ (t : Bool). pick t none (some MissingPair)) f in rw m
+  pair-first e f = let m = missing-strict e ∙ ap (λ (t : Bool). pick t None (Some MissingPair)) f in rw m
 
-  pub plan-then : missing_refusal v s o ≡ none → read_refusal v s o ≡ (plan_of v s o).refusal
+  pub plan-then : missing_refusal v s o ≡ None → read_refusal v s o ≡ (plan_of v s o).refusal
   unfolding read_refusal
   plan-then e = rw e
 
 -- ---- none
 
 pub record PassedAll (file sheet : List ℕ) (o : Settings) : Type 0 where
-  pub opening : opening_refusal file ≡ none
-  pub reading : sheet_refusal sheet ≡ none
-  pub pairs : missing_refusal (voice_of file) (sheet_of sheet) o ≡ none
-  pub plan : (plan_of (voice_of file) (sheet_of sheet) o).refusal ≡ none
+  pub opening : opening_refusal file ≡ None
+  pub reading : sheet_refusal sheet ≡ None
+  pub pairs : missing_refusal (voice_of file) (sheet_of sheet) o ≡ None
+  pub plan : (plan_of (voice_of file) (sheet_of sheet) o).refusal ≡ None
 
-pub passed-all : (file sheet : List ℕ) (o : Settings) → check_refusal file sheet o ≡ none → PassedAll file sheet o
+pub passed-all : (file sheet : List ℕ) (o : Settings) → check_refusal file sheet o ≡ None → PassedAll file sheet o
 unfolding check_refusal read_refusal
 passed-all file sheet o e =
     let a = next-none (opening_refusal file) _ e in

@@ -1,8 +1,8 @@
 -- A call that is not refused has at most 65,536 periods, and fewer than 2 ^ 64 samples.
+use Rattle.std.specs.Prelude.{None}
 use mathlib.Core.Path.{◌≡◌}
 use mathlib.Core.Bool.{Bool, true, false}
 use mathlib.Core.List.{List, [], ◌∷◌}
-use mathlib.Core.Option.{none}
 use Prim.Native.Nat.{ℕ, suc, ◌*◌, ◌^◌, ◌≤◌, ◌<◌}
 use native.Mathlib.Omega.{arith}
 use lib.Dec.{ltb}
@@ -28,17 +28,17 @@ use Rattle.call.proofs.FilledLaws.{plan-low}
 
 -- ---- marks
 
-by_most : (j : JoinType) (v : Voice) (ss : List SegmentRead) (ts : List Target) → (plan_by j v ss ts).refusal ≡ none → length (plan_by j v ss ts).marks ≤ most_marks
+by_most : (j : JoinType) (v : Voice) (ss : List SegmentRead) (ts : List Target) → (plan_by j v ss ts).refusal ≡ None → length (plan_by j v ss ts).marks ≤ most_marks
 unfolding plan_by simple_plan modified_plan
 by_most None v ss ts e = omega arith
 by_most Simple v ss ts e = refusal-most most_marks (natural_marks v 0 (units_of v ss)) e
 by_most ModifiedLpc v ss ts e = marks-most v.header.rate ts
 
-pub plan-most : (v : Voice) (s : Sheet) (o : Settings) → (plan_of v s o).refusal ≡ none → length (plan_of v s o).marks ≤ most_marks
+pub plan-most : (v : Voice) (s : Sheet) (o : Settings) → (plan_of v s o).refusal ≡ None → length (plan_of v s o).marks ≤ most_marks
 unfolding plan_of
 plan-most v s o e = by (ltb (length s.segments) 2) e
   where
-    by : (t : Bool) → (two_segments t (plan_by o.join v (folded o.fold s.segments) s.targets)).refusal ≡ none
+    by : (t : Bool) → (two_segments t (plan_by o.join v (folded o.fold s.segments) s.targets)).refusal ≡ None
         → length (two_segments t (plan_by o.join v (folded o.fold s.segments) s.targets)).marks ≤ most_marks
     by true e = omega arith
     by false e = by_most o.join v (folded o.fold s.segments) s.targets e
@@ -49,7 +49,7 @@ total-most : (xs : List ℕ) → Below (2 ^ 32) xs → total xs ≤ length xs * 
 total-most [] h = omega arith
 total-most (x ∷ xs) h = let a = h 0 in let k = total-most xs (λ j. h (suc j)) in omega arith
 
-module _ (v : Voice) (s : Sheet) (o : Settings) (e : (plan_of v s o).refusal ≡ none) where
+module _ (v : Voice) (s : Sheet) (o : Settings) (e : (plan_of v s o).refusal ≡ None) where
   pub periods-few : length (periods_taken v s o) ≤ 65536
   unfolding periods_taken
   periods-few =

@@ -1,8 +1,8 @@
 -- The numbers that a call fills in are read back from its buffers: none is too great for its bytes.
+use Rattle.std.specs.Prelude.{None}
 use mathlib.Core.Path.{◌≡◌, refl, ap, ◌∙◌}
 use mathlib.Core.Bool.{Bool, true, false}
 use mathlib.Core.List.{List, [], ◌∷◌}
-use mathlib.Core.Option.{none}
 use Prim.Native.Nat.{ℕ, zero, suc, ◌*◌, ◌^◌}
 use native.Mathlib.Omega.{arith}
 use lib.Dec.{ltb}
@@ -35,21 +35,21 @@ use Rattle.call.proofs.CallLaws.{two_segments, periods-sized}
 
 -- ---- the marks
 
-pub call-planned : (file sheet : List ℕ) (o : Settings) (b : Buffers) → call_refusal file sheet o b ≡ none → (plan_of (voice_of file) (sheet_of sheet) o).refusal ≡ none
+pub call-planned : (file sheet : List ℕ) (o : Settings) (b : Buffers) → call_refusal file sheet o b ≡ None → (plan_of (voice_of file) (sheet_of sheet) o).refusal ≡ None
 unfolding call_refusal
 call-planned file sheet o b e = (passed-all file sheet o (next-none _ _ e).0).plan
 
-pub by-low : (j : JoinType) (v : Voice) (ss : List SegmentRead) (ts : List Target) → (plan_by j v ss ts).refusal ≡ none → Each Low (plan_by j v ss ts).marks
+pub by-low : (j : JoinType) (v : Voice) (ss : List SegmentRead) (ts : List Target) → (plan_by j v ss ts).refusal ≡ None → Each Low (plan_by j v ss ts).marks
 unfolding plan_by simple_plan modified_plan
 by-low None v ss ts e = nil
 by-low Simple v ss ts e = refusal-low most_marks (natural_marks v 0 (units_of v ss)) e
 by-low ModifiedLpc v ss ts e = marks-low v.header.rate ts
 
-pub plan-low : (v : Voice) (s : Sheet) (o : Settings) → (plan_of v s o).refusal ≡ none → Each Low (plan_of v s o).marks
+pub plan-low : (v : Voice) (s : Sheet) (o : Settings) → (plan_of v s o).refusal ≡ None → Each Low (plan_of v s o).marks
 unfolding plan_of
 plan-low v s o e = by (ltb (length s.segments) 2) e
   where
-    by : (t : Bool) → (two_segments t (plan_by o.join v (folded o.fold s.segments) s.targets)).refusal ≡ none
+    by : (t : Bool) → (two_segments t (plan_by o.join v (folded o.fold s.segments) s.targets)).refusal ≡ None
         → Each Low (two_segments t (plan_by o.join v (folded o.fold s.segments) s.targets)).marks
     by true e = nil
     by false e = by-low o.join v (folded o.fold s.segments) s.targets e
@@ -69,7 +69,7 @@ module _ (v : Voice) (s : Sheet) (o : Settings) where
   abbrev ps : List Period
   ps = periods_taken v s o
 
-  sizes-back : (plan_of v s o).refusal ≡ none → elements 4 (flat (bytes_of 4) (sizes_of ps)) ≡ sizes_of ps
+  sizes-back : (plan_of v s o).refusal ≡ None → elements 4 (flat (bytes_of 4) (sizes_of ps)) ≡ sizes_of ps
   unfolding sizes_of periods_taken
   sizes-back e = elements-flat 4 (sizes_of ps) (omega arith) (taken-sizes (is_simple o.join) v (plan_of v s o).units (plan_of v s o).marks (plan-low v s o e))
 
@@ -84,13 +84,13 @@ module _ (v : Voice) (s : Sheet) (o : Settings) where
   rows-count : length (rows_of ps) ≡ length ps * v.header.order
   rows-count = rows-length v.header.order ps (periods-sized v s o) ∙ ap (λ (n : ℕ). n * v.header.order) sizes-count
 
-  pub marks-front : (plan_of v s o).refusal ≡ none → (d : List ℕ) → elements 4 (take (4 * (summary_of v s o).marks) (over (filled v s o).marks d)) ≡ (plan_of v s o).marks
+  pub marks-front : (plan_of v s o).refusal ≡ None → (d : List ℕ) → elements 4 (take (4 * (summary_of v s o).marks) (over (filled v s o).marks d)) ≡ (plan_of v s o).marks
   unfolding summary_of filled
   marks-front e d =
       let ms = (plan_of v s o).marks in
       ap (elements 4) (front 4 ms d (length ms) refl) ∙ elements-flat 4 ms (omega arith) (low_below ms (plan-low v s o e))
 
-  pub sizes-front : (plan_of v s o).refusal ≡ none → (d : List ℕ) → elements 4 (take (4 * (summary_of v s o).periods) (over (filled v s o).sizes d)) ≡ sizes_of ps
+  pub sizes-front : (plan_of v s o).refusal ≡ None → (d : List ℕ) → elements 4 (take (4 * (summary_of v s o).periods) (over (filled v s o).sizes d)) ≡ sizes_of ps
   unfolding summary_of filled
   sizes-front e d = ap (elements 4) (front 4 (sizes_of ps) d (length ps) sizes-count) ∙ sizes-back e
 

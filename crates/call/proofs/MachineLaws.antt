@@ -1,5 +1,6 @@
 -- What a list of pulls wrote: the samples of the first periods, as many as were given, and all of them once a pull says done; and what each pull
 -- of the list answers.
+use Rattle.std.specs.Prelude.{Err, None, Ok, Option, Result, Some}
 use mathlib.Core.Path.{◌≡◌, refl, ap, subst, ◌∙◌}
 use mathlib.Core.List.{List, [], ◌∷◌, ◌++◌}
 use mathlib.Core.Logic.{⊎_elim}
@@ -16,16 +17,14 @@ use Rattle.base.proofs.BufferLaws.{take-over, flat_append, length-flat}
 use Rattle.base.proofs.ByteLaws.{length-bytes_of}
 use Rattle.refusal.specs.declared.Refusal.{Refusal}
 use Rattle.refusal.specs.declared.Refusal.TheVariants.{ShortSlice}
-use Rattle.call.specs.declared.Answer.{Answer}
-use Rattle.call.specs.declared.Answer.TheVariants.{Given, Done, Refused}
 use Rattle.call.specs.Machine.{Shown, shows, machine, gave_count, written, bytes_of_periods, given, SaysDone, there}
 use Rattle.call.proofs.PullLaws.{shows-done, shows-short, shows-gives, machine-done, machine-short, machine-gives}
 
 -- where some pull says done, but not the first
-after-refused : {r : Refusal} {d : List ℕ} {os : List Shown} → SaysDone (record { answer = Refused r; slice = d } ∷ os) → SaysDone os
+after-refused : {r : Refusal} {d : List ℕ} {os : List Shown} → SaysDone (record { answer = Err r; slice = d } ∷ os) → SaysDone os
 after-refused (there s) = s
 
-after-given : {n : ℕ} {d : List ℕ} {os : List Shown} → SaysDone (record { answer = Given n; slice = d } ∷ os) → SaysDone os
+after-given : {n : ℕ} {d : List ℕ} {os : List Shown} → SaysDone (record { answer = Ok (Some n); slice = d } ∷ os) → SaysDone os
 after-given (there s) = s
 
 -- ---- what was written
@@ -66,10 +65,10 @@ module _ (ps : List (List ℕ)) where
   -- ---- each pull of a list
 
   -- what each answer says of the count and the slice
-  abbrev pub Answered : ℕ → List ℕ → Answer → Type 0
-  Answered k d (Given n) = k < length ps
-  Answered k d Done = k ≡ length ps
-  Answered k d (Refused r) = (r ≡ ShortSlice) × (length d / 2 < length (get_or ps k []))
+  abbrev pub Answered : ℕ → List ℕ → Result (Option ℕ) Refusal → Type 0
+  Answered k d (Ok (Some n)) = k < length ps
+  Answered k d (Ok None) = k ≡ length ps
+  Answered k d (Err r) = (r ≡ ShortSlice) × (length d / 2 < length (get_or ps k []))
 
   answered : (k : ℕ) (d : List ℕ) → k ≤ length ps → Answered k d (shows ps k d).answer
   answered k d l =
@@ -82,10 +81,10 @@ module _ (ps : List (List ℕ)) where
   step-within : (k : ℕ) (d : List ℕ) → k ≤ length ps → k + gave_count (shows ps k d).answer ≤ length ps
   step-within k d l = go (shows ps k d).answer (answered k d l)
     where
-      go : (a : Answer) → Answered k d a → k + gave_count a ≤ length ps
-      go (Given n) h = omega arith
-      go Done h = omega arith
-      go (Refused r) h = omega arith
+      go : (a : Result (Option ℕ) Refusal) → Answered k d a → k + gave_count a ≤ length ps
+      go (Ok (Some n)) h = omega arith
+      go (Ok None) h = omega arith
+      go (Err r) h = omega arith
 
   -- pull i of a list, after what those before it gave
   pub machine-at : (ds : List (List ℕ)) (k i : ℕ) (o : Shown) → i < length ds → get_or (machine ps k ds) i o ≡ shows ps (k + given (take i (machine ps k ds))) (get_or ds i [])
@@ -107,10 +106,10 @@ module _ (ps : List (List ℕ)) where
   before-within (d ∷ ds) k (suc i) l = rw (← add_assoc) (before-within ds (k + gave_count (shows ps k d).answer) i (step-within k d l))
 
   -- after k periods were given: done exactly where these are all, and refused only for a short slice
-  pub shows-done-all : (k : ℕ) (d : List ℕ) → k ≤ length ps → (shows ps k d).answer ≡ Done → k ≡ length ps
+  pub shows-done-all : (k : ℕ) (d : List ℕ) → k ≤ length ps → (shows ps k d).answer ≡ Ok None → k ≡ length ps
   shows-done-all k d l e = subst (Answered k d) e (answered k d l)
 
-  pub shows-refused : (k : ℕ) (d : List ℕ) (r : Refusal) → k ≤ length ps → (shows ps k d).answer ≡ Refused r → (r ≡ ShortSlice) × (length d / 2 < length (get_or ps k []))
+  pub shows-refused : (k : ℕ) (d : List ℕ) (r : Refusal) → k ≤ length ps → (shows ps k d).answer ≡ Err r → (r ≡ ShortSlice) × (length d / 2 < length (get_or ps k []))
   shows-refused k d r l e = subst (Answered k d) e (answered k d l)
 
   -- ---- done

@@ -1,4 +1,5 @@
 -- Every list of pulls from a fresh state is the plain machine's.
+use Rattle.std.specs.Prelude.{Err, None, Ok, Some}
 use mathlib.Core.Path.{◌≡◌, refl, sym, ap, subst, ◌∙◌}
 use mathlib.Core.Bool.{Bool, true, false, ◌||◌}
 use mathlib.Core.List.{List, [], ◌∷◌}
@@ -24,58 +25,57 @@ use Rattle.lpc.specs.Filter.{Part, cut}
 use Rattle.lpc.specs.State.{fresh_state, advanced, spoken, periods_by}
 use Rattle.lpc.proofs.FilterLaws.{length_cut, length-by}
 use Rattle.lpc.proofs.StateLaws.{kept, Continues, continues-low, fresh-continues, Steps, steps}
-use Rattle.call.specs.declared.Answer.TheVariants.{Given, Done, Refused}
 use Rattle.call.specs.Pull.{Lent, all_given, possible, next_part, leaves, pull_of}
 use Rattle.call.specs.Machine.{Shown, pulls, shows, machine}
 
 -- ---- the cases of a pull, and of the machine
 
-pub pull-impossible : (s : FilterState) (l : Lent) (d : List ℕ) → possible s l ≡ false → pull_of s l d ≡ leaves (Refused BadState) s d
+pub pull-impossible : (s : FilterState) (l : Lent) (d : List ℕ) → possible s l ≡ false → pull_of s l d ≡ leaves (Err BadState) s d
 unfolding pull_of
 pull-impossible s l d p = rw p
 
 module _ (s : FilterState) (l : Lent) (d : List ℕ) (p : possible s l ≡ true) where
-  pub pull-done : s.period ≡ length l.sizes → pull_of s l d ≡ leaves Done s d
+  pub pull-done : s.period ≡ length l.sizes → pull_of s l d ≡ leaves (Ok None) s d
   unfolding pull_of
   pull-done q = rw (p, eq-eqb _ _ q)
 
   module _ (q : s.period ≡ length l.sizes → ⊥) where
-    pub pull-short : length d / 2 < length (next_part s l).bytes → pull_of s l d ≡ leaves (Refused ShortSlice) s d
+    pub pull-short : length d / 2 < length (next_part s l).bytes → pull_of s l d ≡ leaves (Err ShortSlice) s d
     unfolding pull_of
     pull-short h = rw (p, ne_eqb _ _ q, lt-ltb _ _ h)
 
     pub pull-gives : length (next_part s l).bytes ≤ length d / 2
-        → pull_of s l d ≡ leaves (Given (length (next_part s l).bytes)) (advanced s (next_part s l)) (over (flat (bytes_of 2) (spoken s (next_part s l))) d)
+        → pull_of s l d ≡ leaves (Ok (Some (length (next_part s l).bytes))) (advanced s (next_part s l)) (over (flat (bytes_of 2) (spoken s (next_part s l))) d)
     unfolding pull_of
     pull-gives h = rw (p, ne_eqb _ _ q, le-ltb _ _ h)
 
 -- what the machine shows of one pull
 module _ (ps : List (List ℕ)) (k : ℕ) (d : List ℕ) where
-  pub shows-done : k ≡ length ps → shows ps k d ≡ record { answer = Done; slice = d }
+  pub shows-done : k ≡ length ps → shows ps k d ≡ record { answer = Ok None; slice = d }
   unfolding shows
   shows-done q = rw (eq-eqb k (length ps) q)
 
   module _ (q : k ≡ length ps → ⊥) where
-    pub shows-short : length d / 2 < length (get_or ps k []) → shows ps k d ≡ record { answer = Refused ShortSlice; slice = d }
+    pub shows-short : length d / 2 < length (get_or ps k []) → shows ps k d ≡ record { answer = Err ShortSlice; slice = d }
     unfolding shows
     shows-short h = rw (ne_eqb k (length ps) q, lt-ltb (length d / 2) (length (get_or ps k [])) h)
 
-    pub shows-gives : length (get_or ps k []) ≤ length d / 2 → shows ps k d ≡ record { answer = Given (length (get_or ps k [])); slice = over (flat (bytes_of 2) (get_or ps k [])) d }
+    pub shows-gives : length (get_or ps k []) ≤ length d / 2 → shows ps k d ≡ record { answer = Ok (Some (length (get_or ps k []))); slice = over (flat (bytes_of 2) (get_or ps k [])) d }
     unfolding shows
     shows-gives h = rw (ne_eqb k (length ps) q, le-ltb (length d / 2) (length (get_or ps k [])) h)
 
   -- and of the pulls after it
   module _ (ds : List (List ℕ)) where
-    pub machine-done : k ≡ length ps → machine ps k (d ∷ ds) ≡ record { answer = Done; slice = d } ∷ machine ps k ds
+    pub machine-done : k ≡ length ps → machine ps k (d ∷ ds) ≡ record { answer = Ok None; slice = d } ∷ machine ps k ds
     unfolding machine
     machine-done q = rw (shows-done q, add-zero)
 
-    pub machine-short : (k ≡ length ps → ⊥) → length d / 2 < length (get_or ps k []) → machine ps k (d ∷ ds) ≡ record { answer = Refused ShortSlice; slice = d } ∷ machine ps k ds
+    pub machine-short : (k ≡ length ps → ⊥) → length d / 2 < length (get_or ps k []) → machine ps k (d ∷ ds) ≡ record { answer = Err ShortSlice; slice = d } ∷ machine ps k ds
     unfolding machine
     machine-short q h = rw (shows-short q h, add-zero)
 
     pub machine-gives : (k ≡ length ps → ⊥) → length (get_or ps k []) ≤ length d / 2
-        → machine ps k (d ∷ ds) ≡ record { answer = Given (length (get_or ps k [])); slice = over (flat (bytes_of 2) (get_or ps k [])) d } ∷ machine ps (k + 1) ds
+        → machine ps k (d ∷ ds) ≡ record { answer = Ok (Some (length (get_or ps k []))); slice = over (flat (bytes_of 2) (get_or ps k [])) d } ∷ machine ps (k + 1) ds
     unfolding machine
     machine-gives q h = rw (shows-gives q h)
 
@@ -207,7 +207,7 @@ module _ (l : Lent) (ps : List (List ℕ)) (whole : length ps ≡ length l.sizes
       at-end : s.period ≡ length l.sizes → pulls s l (d ∷ ds) ≡ machine ps s.period (d ∷ ds)
       at-end q =
           let o = pull-done s l d possibly q in
-          rw o (ap (λ (t : List Shown). record { answer = Done; slice = d } ∷ t) (ih s b) ∙ sym (machine-done ps s.period d ds (q ∙ sym whole)))
+          rw o (ap (λ (t : List Shown). record { answer = Ok None; slice = d } ∷ t) (ih s b) ∙ sym (machine-done ps s.period d ds (q ∙ sym whole)))
 
       not_end : s.period < length l.sizes → pulls s l (d ∷ ds) ≡ machine ps s.period (d ∷ ds)
       not_end m = by_order (length d / 2) (length (next_part s l).bytes) short enough
@@ -224,7 +224,7 @@ module _ (l : Lent) (ps : List (List ℕ)) (whole : length ps ≡ length l.sizes
           short : length d / 2 < length (next_part s l).bytes → pulls s l (d ∷ ds) ≡ machine ps s.period (d ∷ ds)
           short h =
               let o = pull-short s l d possibly n h in
-              rw o (ap (λ (t : List Shown). record { answer = Refused ShortSlice; slice = d } ∷ t) (ih s b) ∙ sym (machine-short ps s.period d ds n' (rw c at h)))
+              rw o (ap (λ (t : List Shown). record { answer = Err ShortSlice; slice = d } ∷ t) (ih s b) ∙ sym (machine-short ps s.period d ds n' (rw c at h)))
 
           enough : length (next_part s l).bytes ≤ length d / 2 → pulls s l (d ∷ ds) ≡ machine ps s.period (d ∷ ds)
           enough h =

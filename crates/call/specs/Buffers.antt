@@ -1,7 +1,6 @@
 -- Document 01: what a call refuses, answers and leaves in its lent buffers. Each buffer is a list of bytes; an element of the index has 8,
 -- of marks and sizes 4, of rows 2, of excitation and decode buffer 1, little-endian.
-use Rattle.std.specs.Prelude.{Bool, false, List, [], ◌∷◌, ℕ, ◌/◌, leb, pos, length}
-use Rattle.std.proofs.Math.Option.{Option, none, some}
+use Rattle.std.specs.Prelude.{Bool, false, List, [], ◌∷◌, ℕ, ◌/◌, leb, pos, length, Err, None, Ok, Option, Result, Some}
 use Rattle.std.specs.Float.{fin}
 use Rattle.base.specs.Choice.{pick}
 use Rattle.base.specs.Lists.{every, or_next}
@@ -22,8 +21,6 @@ use Rattle.call.specs.declared.Settings.{Settings}
 use Rattle.call.specs.declared.Need.{Need}
 use Rattle.call.specs.declared.Lengths.{Lengths}
 use Rattle.call.specs.declared.Summary.{Summary}
-use Rattle.call.specs.declared.Called.{Called}
-use Rattle.call.specs.declared.Called.TheVariants.{Spoken, Refused}
 use Rattle.call.specs.declared.Planned.{Planned}
 use Rattle.call.specs.Call.{filter_in, plan_of, read_refusal, periods_taken}
 
@@ -113,7 +110,7 @@ check_refusal file sheet o = or_next (opening_refusal file) (or_next (sheet_refu
 
 -- '.. then 13, in a call the sorted index's too'
 unfoldable pub call_refusal : List ℕ → List ℕ → Settings → Buffers → Option Refusal
-call_refusal file sheet o b = or_next (check_refusal file sheet o) (pick (fits (voice_of file) (sheet_of sheet) o b) none (some ShortBuffer))
+call_refusal file sheet o b = or_next (check_refusal file sheet o) (pick (fits (voice_of file) (sheet_of sheet) o b) None (Some ShortBuffer))
 
 unfoldable pub summary_of : Voice → Sheet → Settings → Summary
 summary_of v s o =
@@ -135,11 +132,11 @@ unfoldable pub zero_state : FilterState
 zero_state = fresh_state Fixed 0 (fin false 0 (pos 0)) (fin false 0 (pos 0))
 
 abbrev pub refused_by : Refusal → Planned
-refused_by r = record { answer = Refused r; state = zero_state }
+refused_by r = record { answer = Err r; state = zero_state }
 
 abbrev pub answer_by : Voice → Sheet → Settings → Option Refusal → Planned
-answer_by v s o none = record { answer = Spoken (summary_of v s o); state = fresh_of v o }
-answer_by v s o (some r) = refused_by r
+answer_by v s o None = record { answer = Ok (summary_of v s o); state = fresh_of v o }
+answer_by v s o (Some r) = refused_by r
 
 unfoldable pub planned_of : List ℕ → List ℕ → Settings → Buffers → Planned
 planned_of file sheet o b = answer_by (voice_of file) (sheet_of sheet) o (call_refusal file sheet o b)
@@ -157,13 +154,13 @@ over_all new old =
     }
 
 abbrev pub left_by : Buffers → Buffers → Option Refusal → Buffers
-left_by new old none = over_all new old
-left_by new old (some r) = old
+left_by new old None = over_all new old
+left_by new old (Some r) = old
 
 unfoldable pub buffers_after : List ℕ → List ℕ → Settings → Buffers → Buffers
 buffers_after file sheet o b = left_by (filled (voice_of file) (sheet_of sheet) o) b (call_refusal file sheet o b)
 
 -- the number for a call's answer: 0 where it is spoken
-abbrev pub called_number : Called → ℕ
-called_number (Spoken x) = 0
-called_number (Refused r) = number_of r
+abbrev pub called_number : Result Summary Refusal → ℕ
+called_number (Ok x) = 0
+called_number (Err r) = number_of r

@@ -1,6 +1,5 @@
 -- Document 01: the call. What it gives is defined for every voice and sheet; what refuses it stands beside that.
-use Rattle.std.specs.Prelude.{Bool, true, false, ◌&&◌, not, List, [], ℕ, ltb, length}
-use Rattle.std.proofs.Math.Option.{Option, none, some}
+use Rattle.std.specs.Prelude.{Bool, true, false, ◌&&◌, not, List, [], ℕ, ltb, length, None, Option, Some}
 use Rattle.base.specs.Choice.{pick}
 use Rattle.base.specs.Lists.{or_next}
 use Rattle.base.specs.Buffers.{flat}
@@ -22,8 +21,6 @@ use Rattle.lpc.specs.Filter.{Part, cut}
 use Rattle.lpc.specs.State.{periods_by}
 use Rattle.call.specs.declared.JoinType.{JoinType}
 use Rattle.call.specs.declared.JoinType.TheVariants.{None, Simple, ModifiedLpc}
-use Rattle.call.specs.declared.FilterSetting.{FilterSetting}
-use Rattle.call.specs.declared.FilterSetting.TheVariants.{Unnamed, Named}
 use Rattle.call.specs.declared.Settings.{Settings}
 
 -- ---- the units and the marks of a join
@@ -35,7 +32,7 @@ pub record Plan : Type 0 where
   pub marks : List ℕ
 
 abbrev pub empty_plan : Plan
-empty_plan = record { refusal = none; units = []; marks = [] }
+empty_plan = record { refusal = None; units = []; marks = [] }
 
 -- 'The simple join sums period samples and ignores ends and targets'
 unfoldable pub simple_plan : Voice → List Unit → Plan
@@ -63,7 +60,7 @@ plan_of v s o =
 -- document 02, A1: 'It refuses with 16 a strict call in which some pair finds no name that it tries before the sorted first entry, under
 -- every join, ..'
 unfoldable pub missing_refusal : Voice → Sheet → Settings → Option Refusal
-missing_refusal v s o = pick (o.strict && not (tried_found v o.fold s.segments)) (some MissingPair) none
+missing_refusal v s o = pick (o.strict && not (tried_found v o.fold s.segments)) (Some MissingPair) None
 
 -- '.. after the sheet's checks and before target ends'
 unfoldable pub read_refusal : Voice → Sheet → Settings → Option Refusal
@@ -85,9 +82,9 @@ abbrev pub parts_of : Voice → List Period → List Part
 parts_of v ps = cut v.header.order (sizes_of ps) (rows_of ps) (excitation_of ps)
 
 -- the filter that a call ends up with: the one that it names, else float (document 02, A5)
-abbrev pub filter_by : FilterSetting → ResynthType
-filter_by Unnamed = Float
-filter_by (Named f) = f
+abbrev pub filter_by : Option ResynthType → ResynthType
+filter_by None = Float
+filter_by (Some f) = f
 
 abbrev pub filter_in : Settings → ResynthType
 filter_in o = filter_by o.filter

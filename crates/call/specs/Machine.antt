@@ -1,17 +1,16 @@
 -- Document 01: a spoken call's pulls, and demand 3's plain machine.
-use Rattle.std.specs.Prelude.{List, [], ◌∷◌, ℕ, ◌+◌, ◌*◌, ◌/◌, eqb, ltb, length, get_or, take}
+use Rattle.std.specs.Prelude.{List, [], ◌∷◌, ℕ, ◌+◌, ◌*◌, ◌/◌, eqb, ltb, length, get_or, take, Err, None, Ok, Option, Result, Some}
+use Rattle.refusal.specs.declared.Refusal.{Refusal}
 use Rattle.base.specs.Choice.{pick}
 use Rattle.base.specs.Buffers.{over, flat}
 use Rattle.base.specs.Bytes.{bytes_of, elements}
 use Rattle.refusal.specs.declared.Refusal.TheVariants.{ShortSlice}
 use Rattle.lpc.specs.declared.FilterState.{FilterState}
-use Rattle.call.specs.declared.Answer.{Answer}
-use Rattle.call.specs.declared.Answer.TheVariants.{Given, Done, Refused}
 use Rattle.call.specs.Pull.{Lent, pull_of}
 
 -- what one pull shows of itself: its answer, and every byte of its slice afterwards
 pub record Shown : Type 0 where
-  pub answer : Answer
+  pub answer : Result (Option ℕ) Refusal
   pub slice : List ℕ
 
 -- Pulls one after the other, a slice each: 'each other the state the last one returned or left'.
@@ -22,10 +21,10 @@ pulls s l (d ∷ ds) =
     record { answer = o.pulled.answer; slice = o.slice } ∷ pulls o.pulled.state l ds
 
 -- what one pull counts
-abbrev pub gave_count : Answer → ℕ
-gave_count (Given n) = 1
-gave_count Done = 0
-gave_count (Refused r) = 0
+abbrev pub gave_count : Result (Option ℕ) Refusal → ℕ
+gave_count (Ok (Some n)) = 1
+gave_count (Ok None) = 0
+gave_count (Err r) = 0
 
 -- The plain machine 'holds the periods of samples .. and a count. A pull shows it only its slice: if all periods are counted, it says
 -- done; if the slice is shorter than the next period, it refuses with 14; else it gives that period, writing its samples to the slice's
@@ -33,9 +32,9 @@ gave_count (Refused r) = 0
 unfoldable pub shows : List (List ℕ) → ℕ → List ℕ → Shown
 shows ps k d =
     let p = get_or ps k [] in
-    pick (eqb k (length ps)) (record { answer = Done; slice = d })
-    (pick (ltb (length d / 2) (length p)) (record { answer = Refused ShortSlice; slice = d })
-    (record { answer = Given (length p); slice = over (flat (bytes_of 2) p) d }))
+    pick (eqb k (length ps)) (record { answer = Ok None; slice = d })
+    (pick (ltb (length d / 2) (length p)) (record { answer = Err ShortSlice; slice = d })
+    (record { answer = Ok (Some (length p)); slice = over (flat (bytes_of 2) p) d }))
 
 -- .. and counts it.'
 unfoldable pub machine : List (List ℕ) → ℕ → List (List ℕ) → List Shown
@@ -45,10 +44,10 @@ machine ps k (d ∷ ds) = shows ps k d ∷ machine ps (k + gave_count (shows ps 
 -- ---- what a list of pulls wrote
 
 -- the bytes that one pull gave
-abbrev pub gave_bytes : Answer → List ℕ → List ℕ
-gave_bytes (Given n) d = take (2 * n) d
-gave_bytes Done d = []
-gave_bytes (Refused r) d = []
+abbrev pub gave_bytes : Result (Option ℕ) Refusal → List ℕ → List ℕ
+gave_bytes (Ok (Some n)) d = take (2 * n) d
+gave_bytes (Ok None) d = []
+gave_bytes (Err r) d = []
 
 -- 'what they wrote, joined in order'
 unfoldable pub written : List Shown → List ℕ
@@ -69,5 +68,5 @@ given (o ∷ os) = gave_count o.answer + given os
 
 -- some pull said done
 pub data SaysDone : List Shown → Type 0 where
-  here : {d : List ℕ} {os : List Shown} → SaysDone (record { answer = Done; slice = d } ∷ os)
+  here : {d : List ℕ} {os : List Shown} → SaysDone (record { answer = Ok None; slice = d } ∷ os)
   there : {o : Shown} {os : List Shown} → SaysDone os → SaysDone (o ∷ os)

@@ -1,5 +1,6 @@
 -- Document 01: 'A pull checks 15, then done, then 14.'
-use Rattle.std.specs.Prelude.{Bool, ◌||◌, List, [], ◌∷◌, ℕ, ◌+◌, ◌*◌, ◌/◌, eqb, ltb, leb, ℤ, pos, negsuc, neg_ℤ, length, get_or, take, drop}
+use Rattle.std.specs.Prelude.{Bool, ◌||◌, List, [], ◌∷◌, ℕ, ◌+◌, ◌*◌, ◌/◌, eqb, ltb, leb, ℤ, pos, negsuc, neg_ℤ, length, get_or, take, drop, Err, None, Ok, Option, Result, Some}
+use Rattle.refusal.specs.declared.Refusal.{Refusal}
 use Rattle.base.specs.Choice.{pick}
 use Rattle.base.specs.Lists.{every, part}
 use Rattle.base.specs.Buffers.{over, flat}
@@ -10,8 +11,6 @@ use Rattle.voice.specs.Header.{in_scale}
 use Rattle.lpc.specs.declared.FilterState.{FilterState}
 use Rattle.lpc.specs.Filter.{Part}
 use Rattle.lpc.specs.State.{advanced, spoken}
-use Rattle.call.specs.declared.Answer.{Answer}
-use Rattle.call.specs.declared.Answer.TheVariants.{Given, Done, Refused}
 use Rattle.call.specs.declared.Pulled.{Pulled}
 
 -- what a pull is lent beside its slice: sizes, rows of values q and excitation, as numbers
@@ -56,7 +55,7 @@ pub record Outcome : Type 0 where
   pub pulled : Pulled
   pub slice : List ℕ
 
-abbrev pub leaves : Answer → FilterState → List ℕ → Outcome
+abbrev pub leaves : Result (Option ℕ) Refusal → FilterState → List ℕ → Outcome
 leaves a s d = record { pulled = record { answer = a; state = s }; slice = d }
 
 unfoldable pub pull_of : FilterState → Lent → List ℕ → Outcome
@@ -64,13 +63,13 @@ pull_of s l d =
     let p = next_part s l in
     let n = length p.bytes in
     pick (possible s l)
-    (pick (all_given s l) (leaves Done s d)
-    (pick (ltb (length d / 2) n) (leaves (Refused ShortSlice) s d)
-    (leaves (Given n) (advanced s p) (over (flat (bytes_of 2) (spoken s p)) d))))
-    (leaves (Refused BadState) s d)
+    (pick (all_given s l) (leaves (Ok None) s d)
+    (pick (ltb (length d / 2) n) (leaves (Err ShortSlice) s d)
+    (leaves (Ok (Some n)) (advanced s p) (over (flat (bytes_of 2) (spoken s p)) d))))
+    (leaves (Err BadState) s d)
 
 -- the number for a pull's answer: the samples given, -1 for done, minus document 01's number for a refusal
-abbrev pub pull_number : Answer → ℤ
-pull_number (Given n) = pos n
-pull_number Done = negsuc 0
-pull_number (Refused r) = neg_ℤ (pos (number_of r))
+abbrev pub pull_number : Result (Option ℕ) Refusal → ℤ
+pull_number (Ok (Some n)) = pos n
+pull_number (Ok None) = negsuc 0
+pull_number (Err r) = neg_ℤ (pos (number_of r))

@@ -1,6 +1,5 @@
 -- Document 01: 'A spoken call is a call not refused and any list of pulls after it.'
-use Rattle.std.specs.Prelude.{◌≡◌, List, ℕ, ◌*◌, take}
-use Rattle.std.proofs.Math.Option.{none}
+use Rattle.std.specs.Prelude.{◌≡◌, List, ℕ, ◌*◌, take, None}
 use Rattle.base.specs.Bytes.{Bytes}
 use Rattle.voice.specs.Voice.{Voice, voice_of}
 use Rattle.sheet.specs.Sheet.{Sheet, sheet_of}
@@ -19,7 +18,7 @@ pub record SpokenCall : Type 0 where
   pub settings : Settings
   pub lent : Buffers
   pub bytes : Bytes voice_file
-  pub not_refused : call_refusal voice_file sheet_file settings lent ≡ none
+  pub not_refused : call_refusal voice_file sheet_file settings lent ≡ None
 
 abbrev pub voice_in : SpokenCall → Voice
 voice_in c = voice_of c.voice_file

@@ -16,17 +16,10 @@ pub enum JoinType {
     ModifiedLpc,
 }
 
-// The filter that a call names, if it names one.
-#[derive(Clone, Copy)]
-pub enum FilterSetting {
-    Unnamed,
-    Named(ResynthType),
-}
-
 #[derive(Clone, Copy)]
 pub struct Settings {
     pub join: JoinType,
-    pub filter: FilterSetting,
+    pub filter: Option<ResynthType>,
     pub fold: bool,
     // Whether the call is refused if a pair finds no name that it tries.
     pub strict: bool,
@@ -53,13 +46,13 @@ fn join_of(n: u32) -> JoinType
 }
 
 // The filter of a number: 0 not named, 1 fixed, any other float.
-fn filter_of(n: u32) -> FilterSetting
+fn filter_of(n: u32) -> Option<ResynthType>
     ensures { result ≡ numbers.filter_of n }
 {
     match n {
-        0 => FilterSetting::Unnamed,
-        1 => FilterSetting::Named(ResynthType::Fixed),
-        _ => FilterSetting::Named(ResynthType::Float),
+        0 => None,
+        1 => Some(ResynthType::Fixed),
+        _ => Some(ResynthType::Float),
     }
 }
 
@@ -81,8 +74,8 @@ pub fn filter_in(settings: Settings) -> ResynthType
 {
     let filter = settings.filter;
     match filter {
-        FilterSetting::Unnamed => ResynthType::Float,
-        FilterSetting::Named(named) => named,
+        None => ResynthType::Float,
+        Some(named) => named,
     }
 }
 
@@ -119,29 +112,14 @@ pub struct Summary {
     pub entries: usize,
 }
 
-// What a call answers.
-#[derive(Clone, Copy)]
-pub enum Called {
-    Spoken(Summary),
-    Refused(Refusal),
-}
-
 #[derive(Clone, Copy)]
 pub struct Planned {
-    pub answer: Called,
+    pub answer: Result<Summary, Refusal>,
     pub state: FilterState,
-}
-
-// What a pull answers: how many samples it gave, or that all periods were given before it.
-#[derive(Clone, Copy)]
-pub enum Answer {
-    Given(usize),
-    Done,
-    Refused(Refusal),
 }
 
 #[derive(Clone, Copy)]
 pub struct Pulled {
-    pub answer: Answer,
+    pub answer: Result<Option<usize>, Refusal>,
     pub state: FilterState,
 }

@@ -1,4 +1,5 @@
 -- The marks of the simple join, unit by unit.
+use Rattle.std.specs.Prelude.{Err, Ok}
 use mathlib.Core.Path.{◌≡◌, refl, sym, ap, subst, ◌∙◌}
 use mathlib.Core.List.{List, [], ◌∷◌}
 use Prim.Native.Nat.{ℕ, ◌+◌, ◌-◌, ◌≤◌}
@@ -8,7 +9,6 @@ use Rattle.refusal.specs.declared.Refusal.{Refusal}
 use Rattle.voice.specs.Voice.{Voice}
 use Rattle.units.specs.declared.Unit.{Unit}
 use Rattle.units.specs.Units.{limit}
-use Rattle.marks.specs.declared.UnitMarks.TheVariants as unit
 use Rattle.marks.specs.PitchMarks.{most_marks}
 use Rattle.marks.specs.NaturalMarks.{period_count, natural_marks, mark_refusal}
 use Rattle.marks.specs.Checking.{last_of, unit_marks}
@@ -17,7 +17,6 @@ use Rattle.marks.proofs.RiseLaws.{natural-last}
 use Rattle.marks.proofs.UpToLaws.{natural-up_to}
 use Rattle.call.specs.Call.{simple_plan}
 use Rattle.checking.specs.Joining.{Joins}
-use Rattle.checking.specs.declared.Joined.TheVariants.{Refused, Made}
 
 -- ---- one turn
 
@@ -40,11 +39,11 @@ module _ (v : Voice) (all : List Unit) (place left : ℕ) (u : Unit) (us ws : Li
   going : Going v all (u ∷ ws) place left
   going = same-going v all us (u ∷ ws) place left e here
 
-  pub going-refused : (r : Refusal) → unit_marks v place u.first_period (period_count u) left ≡ unit.Refused r → Joins (simple_plan v all) (Refused r)
+  pub going-refused : (r : Refusal) → unit_marks v place u.first_period (period_count u) left ≡ Err r → Joins (simple_plan v all) (Err r)
   unfolding simple_plan
   going-refused r e = going.refusal ∙ natural-refused v place left u ws r e
 
-  pub going_on : (place₁ left₁ : ℕ) → unit_marks v place u.first_period (period_count u) left ≡ unit.To place₁ left₁ → place₁ ≤ limit → Going v all ws place₁ left₁
+  pub going_on : (place₁ left₁ : ℕ) → unit_marks v place u.first_period (period_count u) left ≡ Ok (place₁, left₁) → place₁ ≤ limit → Going v all ws place₁ left₁
   going_on place₁ left₁ e l =
       let p = natural-passed v place left u ws place₁ left₁ e in
       let g = going in
@@ -60,7 +59,7 @@ module _ (v : Voice) (all : List Unit) (place left : ℕ) (u : Unit) (us ws : Li
 
 -- no unit is left; every mark is taken
 pub going_done : (v : Voice) (all us : List Unit) (place left : ℕ) → us ≡ [] → Going v all us place left
-    → Joins (simple_plan v all) (Made (record { marks = most_marks - left; taken = most_marks - left; last = place }))
+    → Joins (simple_plan v all) (Ok (record { marks = most_marks - left; taken = most_marks - left; last = place }))
 unfolding simple_plan natural_marks last_of
 going_done v all us place left e here =
     let g = same-going v all us [] place left e here in

@@ -1,10 +1,10 @@
 -- What the buffers of a call need.
+use Rattle.std.specs.Prelude.{None}
 use mathlib.Core.Path.{◌≡◌, refl, sym, ap, ◌∙◌}
 use mathlib.Core.Bool.{Bool, true, false}
 use mathlib.Core.List.{List}
-use mathlib.Core.Option.{none}
 use Prim.Native.Nat.{ℕ, ◌*◌, ◌≤◌, ◌<◌}
-use native.Mathlib.Nat.{mul-zero, mul_comm}
+use native.Mathlib.Nat.{mul_comm}
 use native.Mathlib.Omega.{arith}
 use borrow.Author.Tests.{lt-ltb, le-ltb, ltb-false, leb-true}
 use lib.Dec.{ltb}
@@ -41,23 +41,23 @@ use Rattle.voice.specs.Periods.{decode_room}
 use Rattle.voice.proofs.TableLaws.{header_is}
 use Rattle.opening.proofs.IndexLaws.{entries-count}
 use Rattle.call.specs.declared.Need.{Need}
-use Rattle.checking.specs.declared.Counts.{Counts}
+use Rattle.marks.specs.declared.Counts.{Counts}
 use Rattle.checking.specs.Joining.{Counted, need_by}
 
 module _ (file : List ℕ) (d : DiphoneVoice) (o : IsOpen file d) (c : Counts) (room : ℕ) (r : room ≡ decode_room (voice_of file)) where
   abbrev with : ℕ → ℕ → ℕ → Need
   with periods rows excitation = record { entries = d.count; marks = c.marks; periods = periods; rows = rows; excitation = excitation; decoded = room }
 
-  pub need-few : c.marks < 2 → with 0 0 0 ≡ need_by (voice_of file) c
+  order-is : (voice_of file).header.order ≡ d.header.order
+  order-is = ap (λ (h : VoiceHeader). h.order) (header_is file d o.places)
+
+  pub need-few : c.marks < 2 → with 0 (d.header.order * 0) 0 ≡ need_by (voice_of file) c
   unfolding need_by
-  need-few h = let n = entries-count file d o in rw (lt-ltb c.marks 2 h, n, r, mul-zero)
+  need-few h = let n = entries-count file d o in rw (lt-ltb c.marks 2 h, n, r, order-is)
 
   pub need-more : 2 ≤ c.marks → with c.taken (d.header.order * c.taken) c.last ≡ need_by (voice_of file) c
   unfolding need_by
-  need-more h =
-      let n = entries-count file d o in
-      let e : (voice_of file).header.order ≡ d.header.order = ap (λ (h : VoiceHeader). h.order) (header_is file d o.places) in
-      rw (le-ltb c.marks 2 h, n, r, e)
+  need-more h = let n = entries-count file d o in rw (le-ltb c.marks 2 h, n, r, order-is)
 
 -- ---- marks do not fall
 
@@ -76,7 +76,7 @@ plan-rises v s o h l = by (ltb (length s.segments) 2)
     by false = by-rises o.join v (folded o.fold s.segments) s.targets h l
 
 -- an open voice's rate is from 1 to 48,000
-rate-good : (file : List ℕ) → opening_refusal file ≡ none → (1 ≤ (voice_of file).header.rate) × ((voice_of file).header.rate ≤ 48000)
+rate-good : (file : List ℕ) → opening_refusal file ≡ None → (1 ≤ (voice_of file).header.rate) × ((voice_of file).header.rate ≤ 48000)
 unfolding good_numbers good_header voice_of voice_at places_of
 rate-good file e = let n = every-at _ (passed file e).header 1 in (leb-true 1 _ (every-at _ n 2), leb-true _ 48000 (every-at _ n 3))
 
@@ -121,7 +121,7 @@ module _ (natural : Bool) (v : Voice) (us : List Unit) (ms : List ℕ) (takes : 
   rows_are : v.header.order * length (taken natural v us ms) ≡ length (rows_of (taken natural v us ms))
   rows_are = mul_comm v.header.order (length (taken natural v us ms)) ∙ sym (taken-row-values natural v us ms)
 
-pub need-filled : (file : List ℕ) → opening_refusal file ≡ none → (s : Sheet) (o : Settings) (c : Counts)
+pub need-filled : (file : List ℕ) → opening_refusal file ≡ None → (s : Sheet) (o : Settings) (c : Counts)
     → let p = plan_of (voice_of file) s o in Counted p.marks (up_to (greatest_end p.units) p.marks) c → need_by (voice_of file) c ≡ need_of (voice_of file) s o
 unfolding need_by need_of periods_taken
 need-filled file e s o c k =

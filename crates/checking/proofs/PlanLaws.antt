@@ -1,4 +1,7 @@
 -- Which plan a call has.
+use Rattle.std.specs.Prelude.{Ok, Result}
+use Rattle.refusal.specs.declared.Refusal.{Refusal}
+use Rattle.marks.specs.declared.Counts.{Counts}
 use mathlib.Core.Path.{◌≡◌, sym, ap, subst}
 use mathlib.Core.Bool.{Bool}
 use mathlib.Core.List.{List}
@@ -8,7 +11,6 @@ use borrow.Author.Tests.{lt-ltb, le-ltb}
 use lib.ListN.{length}
 use Rattle.voice.specs.Voice.{voice_of}
 use Rattle.sheet.specs.declared.Places.{Places}
-use Rattle.sheet.specs.declared.SheetAnswer.TheVariants.{Read}
 use Rattle.sheet.specs.Sheet.{SegmentRead, sheet_of}
 use Rattle.sheet.specs.Places.{answer_in, sheet_places}
 use Rattle.sheet.proofs.WalkLaws.{ahead-length}
@@ -20,15 +22,14 @@ use Rattle.call.specs.declared.JoinType.TheVariants.{None, Simple, ModifiedLpc}
 use Rattle.call.specs.declared.Settings.{Settings}
 use Rattle.call.specs.Call.{Plan, empty_plan, simple_plan, modified_plan, plan_by, plan_of}
 use Rattle.call.proofs.CallLaws.{two_segments}
-use Rattle.checking.specs.declared.Joined.{Joined}
 use Rattle.checking.specs.Joining.{Joins}
 
-same-joins : (p q : Plan) (r : Joined) → p ≡ q → Joins q r → Joins p r
+same-joins : (p q : Plan) (r : Result Counts Refusal) → p ≡ q → Joins q r → Joins p r
 same-joins p q r e j = subst (λ (x : Plan). Joins x r) (sym e) j
 
 -- ---- by the join
 
-module _ (j : JoinType) (file : List ℕ) (fold : Bool) (sheet : List ℕ) (r : Joined) where
+module _ (j : JoinType) (file : List ℕ) (fold : Bool) (sheet : List ℕ) (r : Result Counts Refusal) where
   abbrev ss : List SegmentRead
   ss = folded fold (sheet_of sheet).segments
 
@@ -52,7 +53,7 @@ module _ (j : JoinType) (file : List ℕ) (fold : Bool) (sheet : List ℕ) (r : 
 
 -- ---- by the number of segments
 
-module _ (file sheet : List ℕ) (p : Places) (e : answer_in (sheet_places sheet) ≡ Read p) (o : Settings) (r : Joined) where
+module _ (file sheet : List ℕ) (p : Places) (e : answer_in (sheet_places sheet) ≡ Ok p) (o : Settings) (r : Result Counts Refusal) where
   segments-count : length (sheet_of sheet).segments ≡ p.segments.count
   segments-count = ahead-length _ sheet _ _ (sheet_of sheet).segments (sheet-ahead sheet p e).segments
 

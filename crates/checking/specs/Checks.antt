@@ -1,24 +1,19 @@
 -- What the check of a call answers.
-use Rattle.std.specs.Prelude.{◌≡◌, List, ℕ}
-use Rattle.std.proofs.Math.Option.{Option, none, some}
+use Rattle.std.specs.Prelude.{◌≡◌, List, ℕ, Err, None, Ok, Option, Result, Some}
 use Rattle.refusal.specs.declared.Refusal.{Refusal}
 use Rattle.voice.specs.Voice.{places_of, voice_of}
 use Rattle.voice.specs.Opening.{IsOpen}
 use Rattle.sheet.specs.Sheet.{sheet_of}
 use Rattle.sheet.specs.Places.{answer_in, sheet_places}
 use Rattle.sheet.specs.declared.Places.{Places}
-use Rattle.sheet.specs.declared.SheetAnswer.{SheetAnswer}
-use Rattle.sheet.specs.declared.SheetAnswer.TheVariants as sheets
 use Rattle.call.specs.declared.Settings.{Settings}
 use Rattle.call.specs.Buffers.{need_of, check_refusal}
 use Rattle.checking.specs.declared.Fit.{Fit}
-use Rattle.checking.specs.declared.Checked.{Checked}
-use Rattle.checking.specs.declared.Checked.TheVariants.{Refused, Passed}
 
 -- where a sheet that was read has its lists; of one that was refused, empty lists
-abbrev pub places_read : SheetAnswer → Places
-places_read (sheets.Read p) = p
-places_read (sheets.Refused r) = record { segments = record { count = 0; at = 0 }; targets = record { count = 0; at = 0 } }
+abbrev pub places_read : Result Places Refusal → Places
+places_read (Ok p) = p
+places_read (Err r) = record { segments = record { count = 0; at = 0 }; targets = record { count = 0; at = 0 } }
 
 -- what a check that passes hands on: where the voice's tables and the sheet's lists stand, and what the buffers need
 abbrev pub fit_of : List ℕ → List ℕ → Settings → Fit
@@ -29,16 +24,16 @@ fit_of file sheet o =
       need = need_of (voice_of file) (sheet_of sheet) o;
     }
 
-abbrev pub answer_checked : Fit → Option Refusal → Checked
-answer_checked f none = Passed f
-answer_checked f (some r) = Refused r
+abbrev pub answer_checked : Fit → Option Refusal → Result Fit Refusal
+answer_checked f None = Ok f
+answer_checked f (Some r) = Err r
 
-unfoldable pub checked_of : List ℕ → List ℕ → Settings → Checked
+unfoldable pub checked_of : List ℕ → List ℕ → Settings → Result Fit Refusal
 checked_of file sheet o = answer_checked (fit_of file sheet o) (check_refusal file sheet o)
 
 -- nothing but its buffers can refuse the call; what is known of it
 pub record Passes (file sheet : List ℕ) (o : Settings) (f : Fit) : Type 0 where
-  pub passed : check_refusal file sheet o ≡ none
+  pub passed : check_refusal file sheet o ≡ None
   pub opened : IsOpen file f.voice
-  pub places : answer_in (sheet_places sheet) ≡ sheets.Read f.places
+  pub places : answer_in (sheet_places sheet) ≡ Ok f.places
   pub need : f.need ≡ need_of (voice_of file) (sheet_of sheet) o

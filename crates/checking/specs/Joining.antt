@@ -1,10 +1,9 @@
 -- Inner: What the check of a join's units and marks asks and finds.
-use Rattle.std.specs.Prelude.{◌≡◌, List, ℕ, ◌*◌, ◌≤◌, ltb, length}
-use Rattle.std.proofs.Math.Option.{none, some}
+use Rattle.std.specs.Prelude.{◌≡◌, List, ℕ, ◌*◌, ◌≤◌, ltb, length, Err, None, Ok, Result, Some}
+use Rattle.refusal.specs.declared.Refusal.{Refusal}
 use Rattle.base.specs.Choice.{pick}
 use Rattle.voice.specs.Voice.{Voice}
 use Rattle.voice.specs.Periods.{decode_room}
-use Rattle.sheet.specs.declared.SheetAnswer.TheVariants.{Read}
 use Rattle.sheet.specs.Places.{answer_in, sheet_places}
 use Rattle.units.specs.declared.Selection.{Selection}
 use Rattle.units.specs.Asked.{Searchable}
@@ -14,14 +13,12 @@ use Rattle.marks.specs.Checking.{last_of, up_to}
 use Rattle.call.specs.declared.Need.{Need}
 use Rattle.call.specs.declared.Settings.{Settings}
 use Rattle.call.specs.Call.{Plan}
-use Rattle.checking.specs.declared.Counts.{Counts}
-use Rattle.checking.specs.declared.Joined.{Joined}
-use Rattle.checking.specs.declared.Joined.TheVariants.{Refused, Made}
+use Rattle.marks.specs.declared.Counts.{Counts}
 
 -- an open voice, an index buffer and a sheet that was read, in which names are looked up, folded as the settings say
 pub record Asks (file index sheet : List ℕ) (by : Selection) (o : Settings) : Type 0 where
   pub searchable : Searchable file index by
-  pub read : answer_in (sheet_places sheet) ≡ Read by.places
+  pub read : answer_in (sheet_places sheet) ≡ Ok by.places
   pub fold : by.fold ≡ o.fold
 
 -- there are the marks ms, and those in front of them are not above the greatest target end
@@ -34,9 +31,9 @@ pub record Counted (ms front : List ℕ) (c : Counts) : Type 0 where
   pub low : c.last ≤ limit
 
 -- the refusal of a plan, or its marks
-abbrev pub Joins : Plan → Joined → Type 0
-Joins p (Refused r) = p.refusal ≡ some r
-Joins p (Made c) = (p.refusal ≡ none) × Counted p.marks (up_to (greatest_end p.units) p.marks) c
+abbrev pub Joins : Plan → Result Counts Refusal → Type 0
+Joins p (Err r) = p.refusal ≡ Some r
+Joins p (Ok c) = (p.refusal ≡ None) × Counted p.marks (up_to (greatest_end p.units) p.marks) c
 
 -- what the buffers need: 'Fewer than two marks give zero periods'
 unfoldable pub need_by : Voice → Counts → Need

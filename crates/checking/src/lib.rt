@@ -1,8 +1,7 @@
 // The check of a call, which writes nothing.
 #![tactic(auto)]
 
-ghost use Rattle.std.specs.Prelude.{◌≡◌, Bool, ◌≤◌, ◌<◌, length};
-ghost use Rattle.std.proofs.Math.Option.{none, some};
+ghost use Rattle.std.specs.Prelude.{◌≡◌, Bool, ◌≤◌, ◌<◌, length, None, Ok, Some};
 ghost use Rattle.base.specs.Choice.{pick};
 ghost use Rattle.voice.specs.Voice.{Voice, voice_of};
 ghost use Rattle.voice.specs.Opening.{IsOpen};
@@ -17,11 +16,11 @@ ghost use Rattle.checking.specs.Joining.{Asks, Joins, need_by};
 ghost use Rattle.checking.specs.Checks.{checked_of};
 
 use call::{JoinType, Need, Settings};
-use marks::{CheckedMarks, UnitMarks};
+use marks::Counts;
 use refusal::Refusal;
-use sheet::{Places, SheetAnswer};
-use units::{CheckedEnds, Held, Selection};
-use voice::{DiphoneVoice, Opened};
+use sheet::Places;
+use units::{Held, Selection};
+use voice::DiphoneVoice;
 
 // A call that nothing refuses but, perhaps, its buffers: the open voice, where the sheet has its
 // lists, and what the buffers need.
@@ -32,63 +31,36 @@ pub struct Fit {
     pub need: Need,
 }
 
-#[derive(Clone, Copy)]
-pub enum Checked {
-    Refused(Refusal),
-    Passed(Fit),
-}
-
-// The marks of a join: how many there are, how many of them are not above the greatest target end,
-// and the last of these, 0 where there is none.
-#[derive(Clone, Copy)]
-struct Counts {
-    marks: usize,
-    taken: usize,
-    last: usize,
-}
-
-// The marks of a join, or why they are refused.
-#[derive(Clone, Copy)]
-enum Joined {
-    Refused(Refusal),
-    Made(Counts),
-}
-
 // Makes the marks of the simple join, unit by unit.
-fn check_natural(file: &[u8], index: &[u8], sheet: &[u8], by: Selection) -> Joined
+fn check_natural(file: &[u8], index: &[u8], sheet: &[u8], by: Selection) -> Result<Counts, Refusal>
     requires { Searchable file.now index.now by ×
-        ((answer_in (sheet_places sheet.now) ≡ SheetAnswer.Read by.places) × (0 < by.places.segments.count)) }
+        ((answer_in (sheet_places sheet.now) ≡ Ok by.places) × (0 < by.places.segments.count)) }
     ensures { Joins
         (simple_plan (voice_of file.now)
         (units_of (voice_of file.now) (folded by.fold (sheet_of sheet.now).segments)))
         result }
 {
-    let places = by.places;
-    let sampled = units::followers::sample(sheet, places);
-    let mut walk = units::step::first_unit(sheet, places);
+    let sampled = units::followers::sample(sheet, by.places);
+    let mut walk = units::step::first_unit(sheet, by.places);
     let mut place = 0;
     let mut left = marks::MOST_MARKS;
     while units::step::has_unit(walk) {
         let step = units::step::next_unit(file, index, sheet, by, &sampled, walk);
         let unit = step.unit;
-        match marks::natural::check_unit_marks(
+        let (end, after) = marks::natural::check_unit_marks(
             file,
             by.voice,
             place,
             unit.first_period,
             unit.last_period,
             left,
-        ) {
-            UnitMarks::Refused(cause) => return Joined::Refused(cause),
-            UnitMarks::To(end, after) => {
-                place = end;
-                left = after;
-            }
-        }
+        )?;
+        place = end;
+        left = after;
         walk = step.walk;
     }
     let count = marks::MOST_MARKS - left;
-    Joined::Made(Counts {
+    Ok(Counts {
         marks: count,
         taken: count,
         last: place,
@@ -96,8 +68,8 @@ fn check_natural(file: &[u8], index: &[u8], sheet: &[u8], by: Selection) -> Join
 }
 
 // Makes the target ends of the modified join, then its pitch marks, at a voice's rate.
-fn check_modified(sheet: &[u8], places: Places, rate: u32) -> Joined
-    requires { answer_in (sheet_places sheet.now) ≡ SheetAnswer.Read places }
+fn check_modified(sheet: &[u8], places: Places, rate: u32) -> Result<Counts, Refusal>
+    requires { answer_in (sheet_places sheet.now) ≡ Ok places }
     ensures { (v : Voice) (fold : Bool) →
         v.header.rate ≡ rate →
         Joins
@@ -105,24 +77,15 @@ fn check_modified(sheet: &[u8], places: Places, rate: u32) -> Joined
         (sheet_of sheet.now).targets)
         result }
 {
-    match units::walk::check_ends(sheet, places, rate) {
-        CheckedEnds::PastLimit => Joined::Refused(Refusal::PastLimit),
-        CheckedEnds::Fit(end) => match marks::check_marks(sheet, places, rate, end) {
-            CheckedMarks::Refused(cause) => Joined::Refused(cause),
-            CheckedMarks::Made(count, taken, last) => Joined::Made(Counts {
-                marks: count,
-                taken: taken,
-                last: last,
-            }),
-        },
-    }
+    let end = units::walk::check_ends(sheet, places, rate)?;
+    marks::check_marks(sheet, places, rate, end)
 }
 
 // No mark is made.
-fn no_marks() -> Joined
+fn no_marks() -> Result<Counts, Refusal>
     ensures { Joins empty_plan result }
 {
-    Joined::Made(Counts {
+    Ok(Counts {
         marks: 0,
         taken: 0,
         last: 0,
@@ -130,9 +93,15 @@ fn no_marks() -> Joined
 }
 
 // The marks of two segments or more.
-fn check_join(file: &[u8], index: &[u8], sheet: &[u8], by: Selection, join: JoinType) -> Joined
+fn check_join(
+    file: &[u8],
+    index: &[u8],
+    sheet: &[u8],
+    by: Selection,
+    join: JoinType,
+) -> Result<Counts, Refusal>
     requires { Searchable file.now index.now by ×
-        ((answer_in (sheet_places sheet.now) ≡ SheetAnswer.Read by.places) × (0 < by.places.segments.count)) }
+        ((answer_in (sheet_places sheet.now) ≡ Ok by.places) × (0 < by.places.segments.count)) }
     ensures { Joins
         (plan_by join (voice_of file.now)
         (folded by.fold (sheet_of sheet.now).segments) (sheet_of sheet.now).targets)
@@ -146,29 +115,29 @@ fn check_join(file: &[u8], index: &[u8], sheet: &[u8], by: Selection, join: Join
 }
 
 // The marks of a call: none where it has fewer than two segments.
-fn check_plan(file: &[u8], index: &[u8], sheet: &[u8], by: Selection, settings: Settings) -> Joined
+fn check_plan(
+    file: &[u8],
+    index: &[u8],
+    sheet: &[u8],
+    by: Selection,
+    settings: Settings,
+) -> Result<Counts, Refusal>
     requires { Asks file.now index.now sheet.now by settings }
     ensures { Joins (plan_of (voice_of file.now) (sheet_of sheet.now) settings) result }
 {
-    let places = by.places;
-    let segments = places.segments;
-    if segments.count < 2 {
+    if by.places.segments.count < 2 {
         return no_marks();
     }
-    let join = settings.join;
-    check_join(file, index, sheet, by, join)
+    check_join(file, index, sheet, by, settings.join)
 }
 
 // Whether no pair is missed: the call is not strict, or each pair finds a name that it tries.
 fn check_pairs(file: &[u8], index: &[u8], sheet: &[u8], by: Selection, settings: Settings) -> bool
     requires { Asks file.now index.now sheet.now by settings }
     ensures { missing_refusal (voice_of file.now) (sheet_of sheet.now) settings ≡
-        pick result none (some Refusal.MissingPair) }
+        pick result None (Some Refusal.MissingPair) }
 {
-    if settings.strict {
-        return pairs::all_found(file, index, sheet, by);
-    }
-    true
+    !settings.strict || pairs::all_found(file, index, sheet, by)
 }
 
 // What the buffers of a call with such marks need: fewer than two marks give no period.
@@ -176,60 +145,46 @@ fn need_of(file: &[u8], d: DiphoneVoice, counts: Counts) -> Need
     requires { IsOpen file.now d × (counts.taken ≤ most_marks) }
     ensures { result ≡ need_by (voice_of file.now) counts }
 {
-    let decoded = voice::periods::decode_room(file, d);
-    if counts.marks < 2 {
-        return Need {
-            entries: d.count,
-            marks: counts.marks,
-            periods: 0,
-            rows: 0,
-            excitation: 0,
-            decoded: decoded,
-        };
-    }
+    let (periods, excitation) = if counts.marks < 2 {
+        (0, 0)
+    } else {
+        (counts.taken, counts.last)
+    };
     Need {
         entries: d.count,
         marks: counts.marks,
-        periods: counts.taken,
-        rows: (d.header.order as usize) * counts.taken,
-        excitation: counts.last,
-        decoded: decoded,
+        periods,
+        rows: (d.header.order as usize) * periods,
+        excitation,
+        decoded: voice::periods::decode_room(file, d),
     }
 }
 
 // Checks 16, then 10 to 12, of an open voice and a sheet that was read.
-fn check_held(file: &[u8], index: &[u8], sheet: &[u8], by: Selection, settings: Settings) -> Checked
+fn check_held(
+    file: &[u8],
+    index: &[u8],
+    sheet: &[u8],
+    by: Selection,
+    settings: Settings,
+) -> Result<Fit, Refusal>
     requires { Asks file.now index.now sheet.now by settings }
     ensures { result ≡ checked_of file.now sheet.now settings }
 {
     if !check_pairs(file, index, sheet, by, settings) {
-        return Checked::Refused(Refusal::MissingPair);
+        return Err(Refusal::MissingPair);
     }
-    match check_plan(file, index, sheet, by, settings) {
-        Joined::Refused(cause) => Checked::Refused(cause),
-        Joined::Made(counts) => {
-            let d = by.voice;
-            let places = by.places;
-            Checked::Passed(Fit {
-                voice: d,
-                places: places,
-                need: need_of(file, d, counts),
-            })
-        }
-    }
+    let counts = check_plan(file, index, sheet, by, settings)?;
+    Ok(Fit {
+        voice: by.voice,
+        places: by.places,
+        need: need_of(file, by.voice, counts),
+    })
 }
 
 // Whether the check looks names up: for the units of the simple join, and in a strict call.
 fn looks_up(settings: Settings) -> bool {
-    if settings.strict {
-        return true;
-    }
-    let join = settings.join;
-    match join {
-        JoinType::None => false,
-        JoinType::Simple => true,
-        JoinType::ModifiedLpc => false,
-    }
+    settings.strict || matches!(settings.join, JoinType::Simple)
 }
 
 // Fills a lent index buffer where names are looked up, since the call's own is not filled yet. Says
@@ -244,14 +199,10 @@ fn hold_for(
     requires { IsOpen file.now d × (8 ≤ length index.old) }
     ensures { Holds file.now index.new d result }
 {
-    let segments = places.segments;
-    if segments.count < 2 {
+    if places.segments.count < 2 || !looks_up(settings) {
         return Held::Nothing;
     }
-    if looks_up(settings) {
-        return units::holding::hold(file, d, index);
-    }
-    Held::Nothing
+    units::holding::hold(file, d, index)
 }
 
 // Checks 16, then 10 to 12, with room for names that are looked up in a lent buffer.
@@ -262,16 +213,16 @@ fn check_marks(
     places: Places,
     settings: Settings,
     index: &mut [u8],
-) -> Checked
+) -> Result<Fit, Refusal>
     requires { IsOpen file.now d ×
-        ((answer_in (sheet_places sheet.now) ≡ SheetAnswer.Read places) × (8 ≤ length index.old)) }
+        ((answer_in (sheet_places sheet.now) ≡ Ok places) × (8 ≤ length index.old)) }
     ensures { result ≡ checked_of file.now sheet.now settings }
 {
     let held = hold_for(file, d, places, settings, index);
     let by = Selection {
         voice: d,
-        held: held,
-        places: places,
+        held,
+        places,
         fold: settings.fold,
     };
     check_held(file, index, sheet, by, settings)
@@ -284,25 +235,26 @@ fn check_sheet(
     sheet: &[u8],
     settings: Settings,
     index: &mut [u8],
-) -> Checked
+) -> Result<Fit, Refusal>
     requires { IsOpen file.now d × (8 ≤ length index.old) }
     ensures { result ≡ checked_of file.now sheet.now settings }
 {
-    match sheet::read_sheet(sheet) {
-        SheetAnswer::Refused(cause) => Checked::Refused(cause),
-        SheetAnswer::Read(places) => check_marks(file, d, sheet, places, settings, index),
-    }
+    let places = sheet::read_sheet(sheet)?;
+    check_marks(file, d, sheet, places, settings, index)
 }
 
 // Checks 1 to 12, 16 and 17, of any two files, with room for names that are looked up in a lent buffer.
-pub fn check_in(file: &[u8], sheet: &[u8], settings: Settings, index: &mut [u8]) -> Checked
+pub fn check_in(
+    file: &[u8],
+    sheet: &[u8],
+    settings: Settings,
+    index: &mut [u8],
+) -> Result<Fit, Refusal>
     requires { 8 ≤ length index.old }
     ensures { result ≡ checked_of file.now sheet.now settings }
 {
-    match opening::check(file) {
-        Opened::Refused(cause) => Checked::Refused(cause),
-        Opened::Open(d) => check_sheet(file, d, sheet, settings, index),
-    }
+    let d = opening::check(file)?;
+    check_sheet(file, d, sheet, settings, index)
 }
 
 // Room for 4,096 places.
@@ -313,7 +265,7 @@ pub fn blank_index() -> [u8; 32768]
 }
 
 // The check with an index buffer of its own.
-fn check_indexed(file: &[u8], sheet: &[u8], settings: Settings) -> Checked
+fn check_indexed(file: &[u8], sheet: &[u8], settings: Settings) -> Result<Fit, Refusal>
     ensures { result ≡ checked_of file.now sheet.now settings }
 {
     let mut index = blank_index();
@@ -321,7 +273,7 @@ fn check_indexed(file: &[u8], sheet: &[u8], settings: Settings) -> Checked
 }
 
 // The check with the least of room: where it looks up no name.
-fn check_bare(file: &[u8], sheet: &[u8], settings: Settings) -> Checked
+fn check_bare(file: &[u8], sheet: &[u8], settings: Settings) -> Result<Fit, Refusal>
     ensures { result ≡ checked_of file.now sheet.now settings }
 {
     let mut index = [0u8; 8];
@@ -329,7 +281,7 @@ fn check_bare(file: &[u8], sheet: &[u8], settings: Settings) -> Checked
 }
 
 // Checks 1 to 12, 16 and 17, of any two files.
-pub fn check(file: &[u8], sheet: &[u8], settings: Settings) -> Checked
+pub fn check(file: &[u8], sheet: &[u8], settings: Settings) -> Result<Fit, Refusal>
     ensures { result ≡ checked_of file.now sheet.now settings }
 {
     if looks_up(settings) {

@@ -1,4 +1,5 @@
 -- The sections of a file, one step at a time.
+use Rattle.std.specs.Prelude.{None, Option, Some}
 use mathlib.Core.Path.{◌≡◌, refl, sym, ap, subst, ◌∙◌}
 use mathlib.Core.Bool.{Bool, true, false, ◌&&◌}
 use mathlib.Core.List.{List, []}
@@ -14,10 +15,8 @@ use Rattle.text.specs.Utf8.{utf8}
 use Rattle.text.specs.Names.{same}
 use Rattle.base.proofs.ListLaws.{every-at}
 use Rattle.container.specs.Sections.{Sections, is_whole, section_name, section_at, with_section, sections_from, data_place, next_place, sections, find, span_of}
-use Rattle.container.specs.declared.Found.{Found}
-use Rattle.container.specs.declared.Found.TheVariants.{At, Missing}
 
-missing_at : (s : Span) → Missing ≡ At s → ⊥
+missing_at : (s : Span) → None ≡ Some s → ⊥
 missing_at s e = let z : ◌≡◌ {A = ℕ} 0 1 = cc in omega arith
 
 -- those from a place on
@@ -102,15 +101,15 @@ module _ (file : List ℕ) where
         let n : d.at ≡ data_place file at = ap (λ (s : Span). s.at) e in
         ap (λ (s : List ℕ). same s name) (sym (name-part at (d.at - 4 - (at + 1)) (omega (arith, n))))
 
-    pub find-done : (at : ℕ) → length file ≤ at → find name (rest file at).list ≡ Missing
+    pub find-done : (at : ℕ) → length file ≤ at → find name (rest file at).list ≡ None
     unfolding find
     find-done at h = ap (λ (r : Sections). find name r.list) (rest-done at h)
 
-    pub find-cut : (at : ℕ) → at < length file → is_whole file at ≡ false → find name (rest file at).list ≡ Missing
+    pub find-cut : (at : ℕ) → at < length file → is_whole file at ≡ false → find name (rest file at).list ≡ None
     unfolding find
     find-cut at h w = ap (λ (r : Sections). find name r.list) (rest-cut at h w)
 
-    pub find-here : (at : ℕ) → at < length file → is_whole file at ≡ true → same (section_name file at) name ≡ true → find name (rest file at).list ≡ At (section_at file at).span
+    pub find-here : (at : ℕ) → at < length file → is_whole file at ≡ true → same (section_name file at) name ≡ true → find name (rest file at).list ≡ Some (section_at file at).span
     unfolding find
     find-here at h w e = ap (λ (r : Sections). find name r.list) (rest_more at h w) ∙ rw e
 
@@ -120,19 +119,19 @@ module _ (file : List ℕ) where
     find-next at h w e = ap (λ (r : Sections). find name r.list) (rest_more at h w) ∙ rw e
 
     -- a section that is found lies within the file
-    pub found_within : (n at : ℕ) (s : Span) → find name (sections_from n file at).list ≡ At s → s.at + s.len ≤ length file
+    pub found_within : (n at : ℕ) (s : Span) → find name (sections_from n file at).list ≡ Some s → s.at + s.len ≤ length file
     unfolding find sections_from
     found_within zero at s e = absurd (missing_at s e)
     found_within (suc n) at s e = by (ltb at (length file)) (is_whole file at) refl e (found_within n (next_place file at) s)
       where
-        here : (t : Bool) → is_whole file at ≡ true → pick t (At (section_at file at).span) (find name (sections_from n file (next_place file at)).list) ≡ At s
-            → (find name (sections_from n file (next_place file at)).list ≡ At s → s.at + s.len ≤ length file)
+        here : (t : Bool) → is_whole file at ≡ true → pick t (Some (section_at file at).span) (find name (sections_from n file (next_place file at)).list) ≡ Some s
+            → (find name (sections_from n file (next_place file at)).list ≡ Some s → s.at + s.len ≤ length file)
             → s.at + s.len ≤ length file
         here true w e ih = let q : (section_at file at).span ≡ s = cc in subst (λ (d : Span). d.at + d.len ≤ length file) q (whole-next at w)
         here false w e ih = ih e
 
-        by : (t u : Bool) → is_whole file at ≡ u → find name (after t u at (sections_from n file (next_place file at))).list ≡ At s
-            → (find name (sections_from n file (next_place file at)).list ≡ At s → s.at + s.len ≤ length file)
+        by : (t u : Bool) → is_whole file at ≡ u → find name (after t u at (sections_from n file (next_place file at))).list ≡ Some s
+            → (find name (sections_from n file (next_place file at)).list ≡ Some s → s.at + s.len ≤ length file)
             → s.at + s.len ≤ length file
         by false u w e ih = absurd (missing_at s e)
         by true false w e ih = absurd (missing_at s e)
@@ -142,6 +141,6 @@ module _ (file : List ℕ) where
     unfolding sections
     section-within = by (find name (sections file).list) refl
       where
-        by : (f : Found) → find name (sections file).list ≡ f → (span_of f).at + (span_of f).len ≤ length file
-        by Missing e = omega arith
-        by (At d) e = found_within (length file) 8 d e
+        by : (f : Option Span) → find name (sections file).list ≡ f → (span_of f).at + (span_of f).len ≤ length file
+        by None e = omega arith
+        by (Some d) e = found_within (length file) 8 d e

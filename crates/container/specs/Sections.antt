@@ -1,5 +1,5 @@
 -- Document 01, 'Voice file': after the magic, sections repeat: name length (1 byte), name, data length (u32), data.
-use Rattle.std.specs.Prelude.{Bool, true, false, ◌&&◌, List, [], ◌∷◌, ℕ, zero, suc, ◌+◌, ltb, leb, length, get_or, take}
+use Rattle.std.specs.Prelude.{Bool, true, false, ◌&&◌, List, [], ◌∷◌, ℕ, zero, suc, ◌+◌, ltb, leb, length, get_or, take, None, Option, Some}
 use Rattle.base.specs.Choice.{pick}
 use Rattle.base.specs.Text.{ascii}
 use Rattle.base.specs.Lists.{every, part}
@@ -9,8 +9,6 @@ use Rattle.base.specs.declared.Span.{Span}
 use Rattle.text.specs.Names.{same}
 use Rattle.text.specs.Utf8.{utf8}
 use Rattle.text.specs.Trim.{trim}
-use Rattle.container.specs.declared.Found.{Found}
-use Rattle.container.specs.declared.Found.TheVariants.{At, Missing}
 
 -- `FLRSDAT` and 0x01
 unfoldable pub magic : List ℕ
@@ -78,27 +76,27 @@ sections file = sections_from (length file) file 8
 -- ---- a section by its name
 
 -- 'The first section of a name counts'
-unfoldable pub find : List ℕ → List Section → Found
-find name [] = Missing
-find name (s ∷ ss) = pick (same s.name name) (At s.span) (find name ss)
+unfoldable pub find : List ℕ → List Section → Option Span
+find name [] = None
+find name (s ∷ ss) = pick (same s.name name) (Some s.span) (find name ss)
 
-abbrev pub is_found : Found → Bool
-is_found (At s) = true
-is_found Missing = false
+abbrev pub is_found : Option Span → Bool
+is_found (Some s) = true
+is_found None = false
 
 -- where its data stand (`bytes_at` has the data); nothing where it is missing
-abbrev pub span_of : Found → Span
-span_of (At s) = s
-span_of Missing = record { at = 0; len = 0 }
+abbrev pub span_of : Option Span → Span
+span_of (Some s) = s
+span_of None = record { at = 0; len = 0 }
 
 -- the bytes are UTF-8 and say `diphone`, but for white space around it
 abbrev pub names_diphone : List ℕ → Bool
 names_diphone bs = utf8 bs && same (trim bs) (ascii "diphone")
 
 -- `Container::backend` gives `Diphone`: the section `voice.backend` is missing or says so
-unfoldable pub says_diphone : List ℕ → Found → Bool
-says_diphone file Missing = true
-says_diphone file (At s) = names_diphone (bytes_at file s)
+unfoldable pub says_diphone : List ℕ → Option Span → Bool
+says_diphone file None = true
+says_diphone file (Some s) = names_diphone (bytes_at file s)
 
 unfoldable pub is_diphone : List ℕ → Bool
 is_diphone file = says_diphone file (find (ascii "voice.backend") (sections file).list)

@@ -9,21 +9,11 @@ ghost use Rattle.container.specs.Sections as parts;
 
 use base::Span;
 
-// Where the data of a section stand in the file, if the file has it.
-#[derive(Clone, Copy)]
-pub enum Found {
-    At(Span),
-    Missing,
-}
-
 // Whether the file begins with `FLRSDAT` and 0x01.
 pub fn has_magic(file: &[u8]) -> bool
     ensures { result ≡ parts.has_magic file.now }
 {
-    if file.len() < 8 {
-        return false;
-    }
-    text::same(&file[..8], b"FLRSDAT\x01")
+    8 <= file.len() && text::same(&file[..8], b"FLRSDAT\x01")
 }
 
 // The length of the name of the section at a place.
@@ -41,14 +31,9 @@ fn is_whole(file: &[u8], at: usize) -> bool
 {
     let from = at + 1;
     let place = from + name_length(file, at);
-    if file.len() < place + 4 {
-        return false;
-    }
-    if text::utf8(&file[from..place]) {
-        let data = base::bytes::read_u32(file, place) as usize;
-        return place + 4 + data <= file.len();
-    }
-    false
+    place + 4 <= file.len()
+        && text::utf8(&file[from..place])
+        && place + 4 + base::bytes::read_u32(file, place) as usize <= file.len()
 }
 
 // Where the data of a section stand that is whole.
@@ -58,10 +43,9 @@ fn data_of(file: &[u8], at: usize) -> Span
         ((at + 5 ≤ result.at) × (result.at + result.len ≤ length file.now)) }
 {
     let place = at + 1 + name_length(file, at);
-    let len = base::bytes::read_u32(file, place) as usize;
     Span {
         at: place + 4,
-        len: len,
+        len: base::bytes::read_u32(file, place) as usize,
     }
 }
 
@@ -71,55 +55,40 @@ pub fn has_whole_sections(file: &[u8]) -> bool
 {
     let mut at = 8;
     while at < file.len() {
-        if is_whole(file, at) {
-            let data = data_of(file, at);
-            at = data.at + data.len;
-        } else {
+        if !is_whole(file, at) {
             return false;
         }
+        let data = data_of(file, at);
+        at = data.at + data.len;
     }
     true
 }
 
 // The first section of a name.
-pub fn find(file: &[u8], name: &[u8]) -> Found
+pub fn find(file: &[u8], name: &[u8]) -> Option<Span>
     ensures { result ≡ parts.find name.now (parts.sections file.now).list }
 {
     let mut at = 8;
     while at < file.len() {
-        if is_whole(file, at) {
-            let data = data_of(file, at);
-            let from = at + 1;
-            let to = data.at - 4;
-            if text::same(&file[from..to], name) {
-                return Found::At(data);
-            }
-            at = data.at + data.len;
-        } else {
-            return Found::Missing;
+        if !is_whole(file, at) {
+            return None;
         }
+        let data = data_of(file, at);
+        let from = at + 1;
+        let to = data.at - 4;
+        if text::same(&file[from..to], name) {
+            return Some(data);
+        }
+        at = data.at + data.len;
     }
-    Found::Missing
+    None
 }
 
-// Whether a section was found.
-pub fn is_found(found: Found) -> bool
-    ensures { result ≡ parts.is_found found }
-{
-    match found {
-        Found::At(_) => true,
-        Found::Missing => false,
-    }
-}
-
-// Where its data stand; nothing where it is missing.
-pub fn span_of(found: Found) -> Span
+// Where the data of a section stand; nothing where it is missing.
+pub fn span_of(found: Option<Span>) -> Span
     ensures { result ≡ parts.span_of found }
 {
-    match found {
-        Found::At(data) => data,
-        Found::Missing => Span { at: 0, len: 0 },
-    }
+    found.unwrap_or(Span { at: 0, len: 0 })
 }
 
 // Whether the text from a place on is `diphone`, but for white space after it.
@@ -127,24 +96,15 @@ fn is_diphone_from(s: &[u8], from: usize) -> bool
     requires { from ≤ length s.now }
     ensures { result ≡ same (trim_end (drop from s.now)) (ascii "diphone") }
 {
-    if s.len() - from < 7 {
-        return false;
-    }
     let end = from + 7;
-    if text::same(&s[from..end], b"diphone") {
-        return text::trim::skip(s, end) == s.len();
-    }
-    false
+    end <= s.len() && text::same(&s[from..end], b"diphone") && text::trim::skip(s, end) == s.len()
 }
 
 // Whether the bytes are UTF-8 and say `diphone`, but for white space around it.
 fn names_diphone(s: &[u8]) -> bool
     ensures { result ≡ parts.names_diphone s.now }
 {
-    if text::utf8(s) {
-        return is_diphone_from(s, text::trim::skip(s, 0));
-    }
-    false
+    text::utf8(s) && is_diphone_from(s, text::trim::skip(s, 0))
 }
 
 // Whether `Container::backend` gives `Diphone`.
@@ -152,11 +112,11 @@ pub fn is_diphone(file: &[u8]) -> bool
     ensures { result ≡ parts.is_diphone file.now }
 {
     match find(file, b"voice.backend") {
-        Found::At(data) => {
+        Some(data) => {
             let from = data.at;
             let end = from + data.len;
             names_diphone(&file[from..end])
         }
-        Found::Missing => true,
+        None => true,
     }
 }

@@ -20,39 +20,30 @@ struct Digits {
 fn has(text: &[u8], at: usize, byte: u8) -> bool
     ensures { result ≡ begins byte (drop at text.now) }
 {
-    if at < text.len() {
-        return text[at] == byte;
-    }
-    false
+    at < text.len() && text[at] == byte
 }
 
 // How many bytes a sign in front takes.
 fn sign_length(text: &[u8]) -> usize
     ensures { (drop result text.now ≡ after_sign text.now) × (result ≤ length text.now) }
 {
-    if has(text, 0, b'+') {
-        return 1;
+    if has(text, 0, b'+') || has(text, 0, b'-') {
+        1
+    } else {
+        0
     }
-    if has(text, 0, b'-') {
-        return 1;
-    }
-    0
 }
 
-// The digit at a place, 10 where none stands there.
-fn digit_at(text: &[u8], at: usize) -> u64
+// The digit at a place, if one stands there.
+fn digit_at(text: &[u8], at: usize) -> Option<u64>
     ensures { DigitAt text.now at result }
 {
-    if at < text.len() {
-        let byte = text[at];
-        if byte < b'0' {
-            return 10;
-        }
-        if byte <= b'9' {
-            return (byte - b'0') as u64;
-        }
+    let byte = *text.get(at)?;
+    if byte.is_ascii_digit() {
+        Some(u64::from(byte - b'0'))
+    } else {
+        None
     }
-    10
 }
 
 // The digits from a place on, read on from a number.
@@ -63,18 +54,12 @@ fn read_digits(text: &[u8], at: usize, before: u64) -> Digits
     let mut end = at;
     let mut number = before;
     let mut power: u64 = 1;
-    let mut digit = digit_at(text, end);
-    while digit < 10 {
+    while let Some(digit) = digit_at(text, end) {
         number = number * 10 + digit;
-        power = power * 10;
+        power *= 10;
         end += 1;
-        digit = digit_at(text, end);
     }
-    Digits {
-        end: end,
-        number: number,
-        power: power,
-    }
+    Digits { end, number, power }
 }
 
 // n / u to the nearest whole number, a tie to the even one.
@@ -101,12 +86,12 @@ fn nearest_pattern(num: u64, den: u64) -> u32
     let mut u = den;
     let mut k: u32 = 149;
     while n < u * 8388608 {
-        n = n * 2;
-        k = k - 1;
+        n *= 2;
+        k -= 1;
     }
     while u * 16777216 <= n {
-        u = u * 2;
-        k = k + 1;
+        u *= 2;
+        k += 1;
     }
     k * 8388608 + nearest_quotient(n, u) as u32
 }
@@ -123,16 +108,6 @@ fn nearest_f32(negative: bool, num: u64, den: u64) -> f32
     f32::from_bits(pattern)
 }
 
-// Whether both hold.
-fn both(a: bool, b: bool) -> bool
-    ensures { result ≡ a && b }
-{
-    if a {
-        return b;
-    }
-    false
-}
-
 // The f32 that a text of up to 12 bytes stands for.
 fn short_to_f32(text: &[u8]) -> f32
     requires { length text.now ≤ 12 }
@@ -146,18 +121,17 @@ fn short_to_f32(text: &[u8]) -> f32
     if has(text, end, b'.') {
         let all = read_digits(text, end + 1, number);
         let last = all.end;
-        return nearest_f32(both(minus, start + 1 < last), all.number, all.power);
+        return nearest_f32(minus && start + 1 < last, all.number, all.power);
     }
-    nearest_f32(both(minus, start < end), number, 1)
+    nearest_f32(minus && start < end, number, 1)
 }
 
-// The f32 that a text stands for, as the Rust's `parse_leading_f32` reads it; of a longer one its first 12 bytes. As it calls
-// itself, it is not put in line where a value is read, which would make sheets without texts slower (docs/SPEED.md).
+// The f32 that a text stands for, as the Rust's `parse_leading_f32` reads it; of a longer one its first 12 bytes. It is not put in line
+// where a value is read, which would make sheets without texts slower (docs/SPEED.md).
+#[inline(never)]
 pub fn text_to_f32(text: &[u8]) -> f32
     ensures { result ≡ text_value (take 12 text.now) }
 {
-    if 12 < text.len() {
-        return text_to_f32(&text[..12]);
-    }
-    short_to_f32(text)
+    let few = text.len().min(12);
+    short_to_f32(&text[..few])
 }

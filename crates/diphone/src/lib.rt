@@ -6,8 +6,7 @@ ghost use Rattle.refusal.specs.Number.{answer_of};
 ghost use Rattle.call.specs.Buffers as calls;
 ghost use Rattle.call.specs.Pull.{lent_of, pull_of};
 
-use call::{Answer, Planned, Pulled, Settings};
-use checking::Checked;
+use call::{Planned, Pulled, Settings};
 use lpc::FilterState;
 use refusal::Refusal;
 
@@ -38,8 +37,8 @@ pub fn plan(
         excitation.old decoded.old))) }
 {
     match checking::check(voice, sheet, settings) {
-        Checked::Refused(cause) => planning::refused(cause),
-        Checked::Passed(fit) => planning::plan_checked(
+        Err(cause) => planning::refused(cause),
+        Ok(fit) => planning::plan_checked(
             voice, sheet, settings, fit, index, marks, sizes, rows, excitation, decoded,
         ),
     }
@@ -62,26 +61,26 @@ pub fn pull(
 {
     if !pulling::is_possible(state, sizes, rows, excitation) {
         return Pulled {
-            answer: Answer::Refused(Refusal::BadState),
-            state: state,
+            answer: Err(Refusal::BadState),
+            state,
         };
     }
     if state.period == sizes.len() / 4 {
         return Pulled {
-            answer: Answer::Done,
-            state: state,
+            answer: Ok(None),
+            state,
         };
     }
     let n = pulling::next_len(state, sizes, excitation);
     if samples.len() / 2 < n {
         return Pulled {
-            answer: Answer::Refused(Refusal::ShortSlice),
-            state: state,
+            answer: Err(Refusal::ShortSlice),
+            state,
         };
     }
     let after = pulling::resynthesise_next(state, n, rows, excitation, samples);
     Pulled {
-        answer: Answer::Given(n),
+        answer: Ok(Some(n)),
         state: after,
     }
 }

@@ -1,8 +1,8 @@
 -- The entries of an index, block by block.
+use Rattle.std.specs.Prelude.{Some}
 use mathlib.Core.Path.{◌≡◌, refl, sym, ap, ◌∙◌}
 use mathlib.Core.Bool.{Bool, true, false, not, ◌&&◌, ◌||◌}
 use mathlib.Core.List.{List, [], ◌∷◌, ◌++◌, map}
-use mathlib.Core.Option.{some}
 use Prim.Native.Nat.{ℕ, zero, suc, ◌+◌, ◌-◌, ◌≤◌}
 use native.Mathlib.Omega.{arith}
 use borrow.Author.Tests.{le-leb, lt-leb}
@@ -37,7 +37,7 @@ found-cons : (n : List ℕ) (p : Placed) (ps : List Placed) → is_some (lookup 
 unfolding lookup
 found-cons n p ps = go (same p.entry.name n)
   where
-    go : (t : Bool) → is_some (pick t (some p.entry) (lookup n ps)) ≡ (t || is_some (lookup n ps))
+    go : (t : Bool) → is_some (pick t (Some p.entry) (lookup n ps)) ≡ (t || is_some (lookup n ps))
     go true = refl
     go false = refl
 
@@ -213,16 +213,6 @@ module _ (ps : List Placed) (q : Placed) (qs : List Placed) where
   pub apart_more : is_some (lookup q.entry.name ps) ≡ false → apart ps (q ∷ qs) ≡ apart ps qs
   unfolding apart
   apart_more e = rw e
-
--- ---- what a block's two tests tell
-
-pub block-told : (a b t : Bool) → a ≡ true → t ≡ b → t ≡ (a && b)
-block-told true b t e f = f
-block-told false b t e f = not-both false e refl
-
-pub block-false : (a b : Bool) → a ≡ false → false ≡ (a && b)
-block-false true b e = not-both true refl e
-block-false false b e = refl
 
 -- ---- one turn of the walk over blocks
 

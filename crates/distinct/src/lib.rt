@@ -11,7 +11,8 @@ ghost use Rattle.index.specs.Index.{Indexable, Filled};
 ghost use Rattle.index.specs.Shuffle.{Shuffled, name_in};
 ghost use Rattle.distinct.specs.Blocks.{apart, block_differs};
 
-use index::FoundEntry;
+// How many entries a block has at most.
+const BLOCK: usize = 2048;
 
 // Whether the name of the entry at a place is one of the block's: the first `count` entries, whose
 // places are filled into `index`.
@@ -22,10 +23,7 @@ fn stands_in(entries: &[u8], count: usize, index: &[u8], at: usize) -> bool
     ensures { result ≡ is_some
         (voices.lookup (entry_at entries.now at).name (entries_from count entries.now 0).list) }
 {
-    match search::find(entries, count, 0, index, index::name_at(entries, at)) {
-        FoundEntry::Found(_) => true,
-        FoundEntry::Missing => false,
-    }
+    search::find(entries, count, 0, index, index::name_at(entries, at)).is_some()
 }
 
 // Whether no name of the `later` entries from a place on is one of the block's.
@@ -37,22 +35,13 @@ fn stands_apart(entries: &[u8], count: usize, index: &[u8], from: usize, later: 
         (entries_from later entries.now from).list }
 {
     let mut at = from;
-    let mut left = later;
-    while 0 < left {
+    for _ in 0..later {
         if stands_in(entries, count, index, at) {
             return false;
         }
         at = index::next_entry(entries, at);
-        left -= 1;
     }
     true
-}
-
-// Room for the places of a block.
-fn blank_places() -> [u8; 16384]
-    ensures { length result ≡ 16384 }
-{
-    [0; 16384]
 }
 
 // Whether the names of two entries are the same, whose places stand at i and j of the index.
@@ -72,12 +61,10 @@ fn neighbours_agree(entries: &[u8], count: usize, index: &[u8]) -> bool
     requires { Shuffled entries.now count 0 index.now index.now }
     ensures { result ≡ true → distinct (entries_from count entries.now 0).list ≡ false }
 {
-    let mut i = 1;
-    while i < count {
+    for i in 1..count {
         if names_agree(entries, count, index, i - 1, i) {
             return true;
         }
-        i += 1;
     }
     false
 }
@@ -107,22 +94,8 @@ fn block_differs(entries: &[u8], count: usize, end: usize, later: usize) -> bool
         ((entries_from later entries.now end).whole ≡ true)) }
     ensures { result ≡ block_differs entries.now count later end }
 {
-    let mut index = blank_places();
-    if sort_block(entries, count, &mut index) {
-        return stands_apart(entries, count, &index, end, later);
-    }
-    false
-}
-
-// How many of the entries that are left the next block has.
-fn block_size(left: usize) -> usize
-    requires { 0 < left }
-    ensures { (0 < result) × ((result ≤ left) × (result ≤ 2048)) }
-{
-    if left < 2048 {
-        return left;
-    }
-    2048
+    let mut index = [0; 8 * BLOCK];
+    sort_block(entries, count, &mut index) && stands_apart(entries, count, &index, end, later)
 }
 
 // Whether no name stands twice, block by block.
@@ -133,14 +106,13 @@ fn names_differ(entries: &[u8], count: usize) -> bool
     let mut at = 0;
     let mut left = count;
     while 0 < left {
-        let size = block_size(left);
+        let size = left.min(BLOCK);
         let end = index::entry_after(&entries[at..], 0, size);
-        if block_differs(&entries[at..], size, end, left - size) {
-            at += end;
-            left -= size;
-        } else {
+        if !block_differs(&entries[at..], size, end, left - size) {
             return false;
         }
+        at += end;
+        left -= size;
     }
     true
 }
@@ -150,8 +122,5 @@ pub fn has_distinct_names(entries: &[u8], count: usize) -> bool
     requires { (entries_from count entries.now 0).whole ≡ true }
     ensures { result ≡ distinct (entries_from count entries.now 0).list }
 {
-    if index::is_ascending(entries, count) {
-        return true;
-    }
-    names_differ(entries, count)
+    index::is_ascending(entries, count) || names_differ(entries, count)
 }

@@ -1,17 +1,17 @@
 // The lines of answers.
-use call::{Answer, Called};
+use call::Summary;
 use refusal::Refusal;
 use std::io;
 
 pub fn refused<R: Print>(rt: &R, cause: Refusal) -> io::Result<()> {
-    println!(rt; "refused {}", refusal::number(cause))
+    println!(rt; "refused {}", u32::from(cause))
 }
 
 // What a call answered.
-pub fn called<R: Print>(rt: &R, answer: Called) -> io::Result<()> {
+pub fn called<R: Print>(rt: &R, answer: Result<Summary, Refusal>) -> io::Result<()> {
     match answer {
-        Called::Refused(cause) => refused(rt, cause),
-        Called::Spoken(m) => {
+        Err(cause) => refused(rt, cause),
+        Ok(m) => {
             println!(rt;
                 "{} marks, {} periods, {} samples",
                 m.marks, m.periods, m.samples
@@ -21,10 +21,10 @@ pub fn called<R: Print>(rt: &R, answer: Called) -> io::Result<()> {
 }
 
 // What a pull answered.
-pub fn pulled<R: Print>(rt: &R, answer: Answer) -> io::Result<()> {
+pub fn pulled<R: Print>(rt: &R, answer: Result<Option<usize>, Refusal>) -> io::Result<()> {
     match answer {
-        Answer::Refused(cause) => refused(rt, cause),
-        Answer::Done => println!(rt; "done"),
-        Answer::Given(n) => println!(rt; "{n} samples"),
+        Err(cause) => refused(rt, cause),
+        Ok(None) => println!(rt; "done"),
+        Ok(Some(n)) => println!(rt; "{n} samples"),
     }
 }

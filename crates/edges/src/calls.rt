@@ -1,80 +1,41 @@
 // Whole calls at the edges of what document 01 admits.
+use crate::pulls::front;
 use crate::{answers, pulls};
-use call::{Planned, Settings};
+use call::{JoinType, Planned, Settings};
+use lpc::ResynthType;
 use std::io;
 
-// Makes a call that is lent the fronts of buffers, each so many bytes long.
-fn plan_in(
-    voice: &[u8],
-    sheet: &[u8],
-    settings: Settings,
-    index_len: usize,
-    index: &mut [u8],
-    marks_len: usize,
-    marks: &mut [u8],
-    sizes_len: usize,
-    sizes: &mut [u8],
-    rows_len: usize,
-    rows: &mut [u8],
-    excitation_len: usize,
-    excitation: &mut [u8],
-    decoded_len: usize,
-    decoded: &mut [u8],
-) -> Planned {
-    let i = index_len.min(index.len());
-    let m = marks_len.min(marks.len());
-    let s = sizes_len.min(sizes.len());
-    let r = rows_len.min(rows.len());
-    let e = excitation_len.min(excitation.len());
-    let d = decoded_len.min(decoded.len());
-    diphone::plan(
-        voice,
-        sheet,
-        settings,
-        &mut index[..i],
-        &mut marks[..m],
-        &mut sizes[..s],
-        &mut rows[..r],
-        &mut excitation[..e],
-        &mut decoded[..d],
-    )
-}
-
-const SIMPLE: u32 = call::JOIN_SIMPLE + call::FILTER_FIXED;
-
-const MODIFIED: u32 = call::JOIN_MODIFIED + call::FILTER_FIXED;
-
-// Makes a call with the settings of a word that is lent so many bytes of each buffer: index, marks,
+// Makes a call by a join, with the fixed filter, that is lent so many bytes of each buffer: index, marks,
 // sizes, rows, excitation and decoded.
-fn plan(voice: &[u8], sheet: &[u8], settings: u32, lens: [usize; 6]) -> Planned {
+fn plan(voice: &[u8], sheet: &[u8], join: JoinType, lens: [usize; 6]) -> Planned {
     let mut index = [0u8; 16];
     let mut marks = [0u8; 262144];
     let mut sizes = [0u8; 32760];
     let mut rows = [0u8; 192];
     let mut excitation = [0u8; 20475];
     let mut decoded = [0u8; 16];
-    plan_in(
+    let settings = Settings {
+        join,
+        filter: Some(ResynthType::Fixed),
+        fold: false,
+        strict: false,
+    };
+    diphone::plan(
         voice,
         sheet,
-        call::settings_of(settings),
-        lens[0],
-        &mut index,
-        lens[1],
-        &mut marks,
-        lens[2],
-        &mut sizes,
-        lens[3],
-        &mut rows,
-        lens[4],
-        &mut excitation,
-        lens[5],
-        &mut decoded,
+        settings,
+        front(&mut index, lens[0]),
+        front(&mut marks, lens[1]),
+        front(&mut sizes, lens[2]),
+        front(&mut rows, lens[3]),
+        front(&mut excitation, lens[4]),
+        front(&mut decoded, lens[5]),
     )
 }
 
 // Makes the call by the modified join, and prints its answer.
 fn make<R: Print>(rt: &R, voice: &[u8], sheet: &[u8], lens: [usize; 6]) -> io::Result<()> {
-    let planned = plan(voice, sheet, MODIFIED, lens);
+    let planned = plan(voice, sheet, JoinType::ModifiedLpc, lens);
     answers::called(rt, planned.answer)
 }
 
@@ -82,7 +43,7 @@ fn make<R: Print>(rt: &R, voice: &[u8], sheet: &[u8], lens: [usize; 6]) -> io::R
 // and 3 samples, of the voice's one entry.
 pub fn try_segments<R: Print>(rt: &R, voice: &[u8], sheet: &[u8]) -> io::Result<()> {
     let lens = [8, 32760, 32760, 0, 20475, 0];
-    let planned = plan(voice, sheet, SIMPLE, lens);
+    let planned = plan(voice, sheet, JoinType::Simple, lens);
     answers::called(rt, planned.answer)
 }
 
@@ -103,42 +64,45 @@ pub fn try_orders<R: Print>(rt: &R, voice: &[u8], higher: &[u8], sheet: &[u8]) -
 
 // Each buffer in turn is an element short.
 pub fn try_elements<R: Print>(rt: &R, voice: &[u8], sheet: &[u8]) -> io::Result<()> {
-    print!(rt; "index one element short: ")?;
-    make(rt, voice, sheet, [8, 16, 12, 192, 64, 16])?;
-    print!(rt; "marks one element short: ")?;
-    make(rt, voice, sheet, [16, 12, 12, 192, 64, 16])?;
-    print!(rt; "sizes one element short: ")?;
-    make(rt, voice, sheet, [16, 16, 8, 192, 64, 16])?;
-    print!(rt; "rows one element short: ")?;
-    make(rt, voice, sheet, [16, 16, 12, 190, 64, 16])?;
-    print!(rt; "excitation one element short: ")?;
-    make(rt, voice, sheet, [16, 16, 12, 192, 63, 16])?;
-    print!(rt; "decoded one element short: ")?;
-    make(rt, voice, sheet, [16, 16, 12, 192, 64, 15])
+    let cases = [
+        ("index", [8, 16, 12, 192, 64, 16]),
+        ("marks", [16, 12, 12, 192, 64, 16]),
+        ("sizes", [16, 16, 8, 192, 64, 16]),
+        ("rows", [16, 16, 12, 190, 64, 16]),
+        ("excitation", [16, 16, 12, 192, 63, 16]),
+        ("decoded", [16, 16, 12, 192, 64, 15]),
+    ];
+    for (buffer, lens) in cases {
+        print!(rt; "{buffer} one element short: ")?;
+        make(rt, voice, sheet, lens)?;
+    }
+    Ok(())
 }
 
 // Each buffer whose elements have more than a byte is a byte short.
 pub fn try_bytes<R: Print>(rt: &R, voice: &[u8], sheet: &[u8]) -> io::Result<()> {
-    print!(rt; "index one byte short: ")?;
-    make(rt, voice, sheet, [15, 16, 12, 192, 64, 16])?;
-    print!(rt; "marks one byte short: ")?;
-    make(rt, voice, sheet, [16, 15, 12, 192, 64, 16])?;
-    print!(rt; "sizes one byte short: ")?;
-    make(rt, voice, sheet, [16, 16, 11, 192, 64, 16])?;
-    print!(rt; "rows one byte short: ")?;
-    make(rt, voice, sheet, [16, 16, 12, 191, 64, 16])
+    let cases = [
+        ("index", [15, 16, 12, 192, 64, 16]),
+        ("marks", [16, 15, 12, 192, 64, 16]),
+        ("sizes", [16, 16, 11, 192, 64, 16]),
+        ("rows", [16, 16, 12, 191, 64, 16]),
+    ];
+    for (buffer, lens) in cases {
+        print!(rt; "{buffer} one byte short: ")?;
+        make(rt, voice, sheet, lens)?;
+    }
+    Ok(())
 }
 
 // A call of no segments and no targets, and a pull from it that is lent nothing.
 fn speak_nothing<R: Print>(rt: &R, voice: &[u8], index: usize, decoded: usize) -> io::Result<()> {
     let sheet = [0u8; 2];
     let lens = [index, 0, 0, 0, 0, decoded];
-    let planned = plan(voice, &sheet, MODIFIED, lens);
+    let planned = plan(voice, &sheet, JoinType::ModifiedLpc, lens);
     answers::called(rt, planned.answer)?;
-    let state = planned.state;
     let mut samples = [0u8; 2];
     print!(rt; "a pull, all empty: ")?;
-    pulls::make(rt, state, b"", b"", b"", &mut samples, 0)?;
+    pulls::make(rt, planned.state, b"", b"", b"", &mut samples, 0)?;
     Ok(())
 }
 

@@ -5,13 +5,11 @@ mod answers;
 mod calls;
 mod pulls;
 
-ghost use Rattle.std.specs.Prelude.{◌≡◌, ◌+◌, ◌*◌, ◌<◌, ◌≤◌, length};
+ghost use Rattle.std.specs.Prelude.{◌≡◌, ◌+◌, ◌*◌, ◌<◌, ◌≤◌, length, Ok};
 ghost use Rattle.io.specs.Counts.{IsPrefixLen};
 ghost use Rattle.sheet.specs.Places.{sheet_places, answer_in};
-ghost use Rattle.sheet.specs.declared.SheetAnswer.TheVariants as SheetAnswer;
 
-use marks::CheckedMarks;
-use sheet::{Places, SheetAnswer};
+use sheet::Places;
 use std::fs::File;
 use std::io;
 use std::rt::Files;
@@ -23,36 +21,31 @@ fn put_segments(buf: &mut [u8], n: usize)
 {
     buf[0] = (n % 128 + 128) as u8;
     buf[1] = (n / 128) as u8;
-    let mut i = 0;
-    while i < n {
+    for i in 0..n {
         buf[3 * i + 3] = 2;
-        i += 1;
     }
 }
 
 fn print_segments<R: Print>(rt: &R, sheet: &[u8]) -> io::Result<()> {
     match sheet::read_sheet(sheet) {
-        SheetAnswer::Refused(cause) => answers::refused(rt, cause),
-        SheetAnswer::Read(places) => {
-            let segments = places.segments;
-            println!(rt; "{} segments read", segments.count)
-        }
+        Err(cause) => answers::refused(rt, cause),
+        Ok(places) => { println!(rt; "{} segments read", places.segments.count) }
     }
 }
 
 fn print_marks_of<R: Print>(rt: &R, sheet: &[u8], places: Places) -> io::Result<()>
-    requires { answer_in (sheet_places sheet.now) ≡ SheetAnswer.Read places }
+    requires { answer_in (sheet_places sheet.now) ≡ Ok places }
 {
     match marks::check_marks(sheet, places, 8000, 16777215) {
-        CheckedMarks::Refused(cause) => answers::refused(rt, cause),
-        CheckedMarks::Made(count, _, _) => println!(rt; "{count} marks made"),
+        Err(cause) => answers::refused(rt, cause),
+        Ok(counts) => println!(rt; "{} marks made", counts.marks),
     }
 }
 
 fn print_marks<R: Print>(rt: &R, sheet: &[u8]) -> io::Result<()> {
     match sheet::read_sheet(sheet) {
-        SheetAnswer::Refused(cause) => answers::refused(rt, cause),
-        SheetAnswer::Read(places) => print_marks_of(rt, sheet, places),
+        Err(cause) => answers::refused(rt, cause),
+        Ok(places) => print_marks_of(rt, sheet, places),
     }
 }
 

@@ -3,6 +3,12 @@ use crate::answers;
 use lpc::{FilterState, ResynthType};
 use std::io;
 
+// The first n bytes of a buffer, or all where it has fewer.
+pub fn front(buf: &mut [u8], n: usize) -> &mut [u8] {
+    let end = n.min(buf.len());
+    &mut buf[..end]
+}
+
 // Makes a pull that is lent the front of a slice, so many bytes long, and prints its answer.
 pub fn make<R: Print>(
     rt: &R,
@@ -13,8 +19,8 @@ pub fn make<R: Print>(
     samples: &mut [u8],
     samples_len: usize,
 ) -> io::Result<FilterState> {
-    let n = samples_len.min(samples.len());
-    let pulled = diphone::pull(state, sizes, rows, excitation, &mut samples[..n]);
+    let samples = front(samples, samples_len);
+    let pulled = diphone::pull(state, sizes, rows, excitation, samples);
     answers::pulled(rt, pulled.answer)?;
     Ok(pulled.state)
 }
@@ -38,7 +44,7 @@ fn pull_again<R: Print>(
 }
 
 fn print_same<R: Print>(rt: &R, a: &[u8; 64], b: &[u8; 64]) -> io::Result<()> {
-    if text::same(a, b) {
+    if a == b {
         println!(rt; "the same samples")
     } else {
         println!(rt; "other samples")

@@ -16,10 +16,7 @@ use voice::{Codec, DiphoneVoice};
 fn lead_in(n: usize) -> usize
     ensures { (result ≤ n) × (result ≡ min 8 n) }
 {
-    if n < 8 {
-        return n;
-    }
-    8
+    n.min(8)
 }
 
 // The source of a period: a part of the decoded buffer, whose front holds the period, or the
@@ -30,7 +27,7 @@ pub fn source<'a>(decoded: &'a [u8], residual: &'a [u8], codec: Codec) -> &'a [u
     ensures { result.now ≡ sources.source_by codec residual.now }
 {
     match codec {
-        Codec::Ulaw => &residual[..],
+        Codec::Ulaw => residual,
         Codec::G721 => {
             let n = 2 * residual.len();
             let from = lead_in(n);
@@ -44,11 +41,7 @@ fn fill_at(buf: &mut [u8], at: usize, n: usize)
     requires { at + n ≤ length buf.old }
     ensures { buf.new ≡ sets buf.old at (replicate n 255) }
 {
-    let mut i = 0;
-    while i < n {
-        buf[at + i] = 255;
-        i += 1;
-    }
+    buf[at..at + n].fill(255);
 }
 
 // Writes bytes at a place.
@@ -56,11 +49,7 @@ pub fn copy_at(from: &[u8], buf: &mut [u8], at: usize)
     requires { at + length from.now ≤ length buf.old }
     ensures { buf.new ≡ sets buf.old at from.now }
 {
-    let mut i = 0;
-    while i < from.len() {
-        buf[at + i] = from[i];
-        i += 1;
-    }
+    buf[at..at + from.len()].copy_from_slice(from);
 }
 
 // Puts a source into the window of so many samples at a place: the shorter of the two is centred in
@@ -88,20 +77,14 @@ pub fn nearest_period(file: &[u8], d: DiphoneVoice, unit: Unit, place: f32) -> u
     ensures { (result ≡ places.nearest_period (voice_of file.now) unit place) × (result < d.header.frames) }
 {
     let mut start = 0.0;
-    let mut p = unit.first_period;
-    let last = unit.last_period;
-    while p < last {
+    for p in unit.first_period..unit.last_period {
         let end = start + float::u32_to_f32(voice::periods::period_samples(file, d, p) as u32);
         if float::is_nearer(place, start, end) {
             return p;
         }
         start = end;
-        p += 1;
     }
-    if p == 0 {
-        return 0;
-    }
-    p - 1
+    unit.last_period.saturating_sub(1)
 }
 
 // The samples of the periods from `from` on and before `to`, at most 255 of them.
@@ -111,9 +94,7 @@ pub fn samples_from(file: &[u8], d: DiphoneVoice, from: usize, to: usize) -> usi
         (result ≤ 16777215 * (to - from)) }
 {
     let mut sum = 0;
-    let mut p = to;
-    while from < p {
-        p -= 1;
+    for p in (from..to).rev() {
         sum += voice::periods::period_samples(file, d, p);
     }
     sum
@@ -144,8 +125,5 @@ fn span(end: usize, before: usize) -> usize
     requires { end ≤ 16777215 }
     ensures { (result ≡ max (end - before) 1) × (result ≤ 16777215) }
 {
-    if end <= before {
-        return 1;
-    }
-    end - before
+    end.saturating_sub(before).max(1)
 }

@@ -17,13 +17,10 @@ pub fn read_full<R: Read>(from: &mut R, buf: &mut [u8]) -> usize
 {
     let mut done = 0;
     while done < buf.len() {
-        let Ok(n) = from.read(&mut buf[done..]) else {
-            break;
-        };
-        if n == 0 {
-            break;
+        match from.read(&mut buf[done..]) {
+            Ok(0) | Err(_) => break,
+            Ok(n) => done += n,
         }
-        done += n;
     }
     done
 }

@@ -1,4 +1,5 @@
 -- All buffers of a call: what they need, and what is left in them.
+use Rattle.std.specs.Prelude.{Ok}
 use mathlib.Core.Path.{◌≡◌, sym, ap, subst, ◌∙◌}
 use mathlib.Core.Bool.{Bool, true}
 use mathlib.Core.List.{List, []}
@@ -14,7 +15,6 @@ use Rattle.voice.specs.declared.DiphoneVoice.{DiphoneVoice}
 use Rattle.voice.specs.Voice.{Voice, voice_of}
 use Rattle.voice.specs.Opening.{index_fits, index_bytes}
 use Rattle.sheet.specs.declared.Places.{Places}
-use Rattle.sheet.specs.declared.SheetAnswer.TheVariants.{Read}
 use Rattle.sheet.specs.Sheet.{Sheet, segment, sheet_of}
 use Rattle.sheet.specs.Places.{answer_in, sheet_places}
 use Rattle.sheet.proofs.ReadLaws.{sheet-ahead}
@@ -36,7 +36,7 @@ use Rattle.filling.proofs.PeriodLaws.{rows-count, fill_none, OverEach, fill-over
 
 -- ---- the plan, by how many segments there are
 
-pub segment-count : (sheet : List ℕ) (p : Places) → answer_in (sheet_places sheet) ≡ Read p → length (sheet_of sheet).segments ≡ p.segments.count
+pub segment-count : (sheet : List ℕ) (p : Places) → answer_in (sheet_places sheet) ≡ Ok p → length (sheet_of sheet).segments ≡ p.segments.count
 segment-count sheet p e =
     ahead-length (segment p.segments.count) sheet p.segments.count p.segments.at (sheet_of sheet).segments (sheet-ahead sheet p e).segments
 

@@ -1,8 +1,8 @@
 -- The marks that a join stores and the periods that it takes by them.
+use Rattle.std.specs.Prelude.{None}
 use mathlib.Core.Path.{◌≡◌, refl, sym, ap, subst, ◌∙◌}
 use mathlib.Core.Bool.{Bool}
 use mathlib.Core.List.{List, [], ◌∷◌}
-use mathlib.Core.Option.{none}
 use Prim.Native.Nat.{ℕ, zero, suc, ◌-◌, ◌*◌, ◌^◌, ◌≤◌, ◌<◌}
 use native.Mathlib.Omega.{arith}
 use borrow.Author.Tests.{leb-true, le-leb}
@@ -36,21 +36,21 @@ use Rattle.call.specs.declared.JoinType.{JoinType}
 use Rattle.call.specs.declared.JoinType.TheVariants.{None, Simple, ModifiedLpc}
 use Rattle.call.specs.Call.{simple_plan, modified_plan, plan_by, is_simple}
 use Rattle.call.proofs.FilledLaws.{by-low}
-use Rattle.filling.specs.Filling.{selected, planned, CanStoreMarks, join_units, PeriodBuffers, fill_periods, HasRoom, taken_from}
+use Rattle.filling.specs.Filling.{selected, planned, join_units, PeriodBuffers, fill_periods, HasRoom, taken_from}
 use Rattle.filling.specs.Filling.{units_take, CanTakeUnits, join_takes, CanTakePeriods, CanJoin}
 use Rattle.filling.proofs.PeriodLaws.{fill_none}
 
 -- ---- the marks of a join
 
 -- no natural end is above the limit where no mark is
-natural-low : (v : Voice) (place left : ℕ) (us : List Unit) (d : List ℕ) (i : ℕ) (all : List ℕ) → UnitsStoring v place left us d i all → end_refusal (natural_units v place us) ≡ none
+natural-low : (v : Voice) (place left : ℕ) (us : List Unit) (d : List ℕ) (i : ℕ) (all : List ℕ) → UnitsStoring v place left us d i all → end_refusal (natural_units v place us) ≡ None
 unfolding natural_units end_refusal
 natural-low v place left [] d i all k = refl
 natural-low v place left (u ∷ us) d i all k =
     let l = le-leb (place_after_unit v place u) limit (units-low v place left u us d i all k) in
     rw l (natural-low v (place_after_unit v place u) (left - period_count u) us _ _ all (units-storing v place left u us d i all k _ refl))
 
-pub open-rate : (file : List ℕ) → opening_refusal file ≡ none → (1 ≤ (voice_of file).header.rate) × ((voice_of file).header.rate ≤ 48000)
+pub open-rate : (file : List ℕ) → opening_refusal file ≡ None → (1 ≤ (voice_of file).header.rate) × ((voice_of file).header.rate ≤ 48000)
 unfolding good_numbers good_header voice_of voice_at places_of
 open-rate file e = let numbers = every-at _ (passed file e).header 1 in (leb-true 1 _ (every-at _ numbers 2), leb-true _ 48000 (every-at _ numbers 3))
 
@@ -67,7 +67,7 @@ module _ (v : Voice) (ss : List SegmentRead) (ts : List Target) where
   join-units Simple h = refl
   join-units ModifiedLpc h = refl
 
-  pub join-low : (j : JoinType) → 2 ≤ length (plan_by j v ss ts).marks → (plan_by j v ss ts).refusal ≡ none → end_refusal (join_units (is_simple j) v 0 (units_of v ss)) ≡ none
+  pub join-low : (j : JoinType) → 2 ≤ length (plan_by j v ss ts).marks → (plan_by j v ss ts).refusal ≡ None → end_refusal (join_units (is_simple j) v 0 (units_of v ss)) ≡ None
   unfolding plan_by simple_plan modified_plan
   join-low None h e = absurd (omega arith)
   join-low Simple h e =
@@ -135,17 +135,6 @@ module _ (join : JoinType) (file index sheet : List ℕ) (by : Selection) (count
       units-taken = ap (λ (t : Bool). fill_periods v 0 0 (units_take t file sheet by (take (4 * count) marks)) b) q ∙ ap (λ (ps : List Period). fill_periods v 0 0 ps b) same-periods
 
 -- all marks are stored
-pub can-marks : (join : JoinType) (file index sheet : List ℕ) (by : Selection) (count n : ℕ) (b : PeriodBuffers) → CanJoin join file index sheet by count n b
-    → CanStoreMarks join file index sheet by count n
-can-marks join file index sheet by count n b h =
-    record {
-      selects = h.marked.selects;
-      two = h.marked.two;
-      spoken = h.marked.spoken;
-      whole = λ e. omega (arith, h.counted);
-      room = omega (arith, h.counted, h.marked.room);
-    }
-
 pub all-marks : (join : JoinType) (file index sheet : List ℕ) (by : Selection) (count n : ℕ) (b : PeriodBuffers) → CanJoin join file index sheet by count n b
     → (d : List ℕ) → let ms = (planned join file sheet by).marks in over (flat (bytes_of 4) (take count ms)) d ≡ over (flat (bytes_of 4) ms) d
 all-marks join file index sheet by count n b h d =

@@ -1,8 +1,8 @@
 -- The loop over units that takes their periods.
+use Rattle.std.specs.Prelude.{None, Some}
 use mathlib.Core.Path.{◌≡◌, refl, sym, ap, subst, ◌∙◌}
 use mathlib.Core.Bool.{Bool, true, false}
 use mathlib.Core.List.{List, [], ◌∷◌, ◌++◌}
-use mathlib.Core.Option.{none, some}
 use Prim.Native.Nat.{ℕ, ◌+◌, ◌*◌, ◌≤◌}
 use native.Mathlib.Omega.{arith}
 use borrow.Author.Tests.{leb-true}
@@ -57,11 +57,11 @@ join-natural natural v place u n t e = rw (t, e)
 pub join_kept : (natural : Bool) (v : Voice) (place : ℕ) (u : Unit) → natural ≡ false → u ≡ join_unit natural v place u
 join_kept natural v place u t = rw t
 
-pub low_first : (u : Unit) (us : List Unit) → end_refusal (u ∷ us) ≡ none → (u.target_end ≤ limit) × (end_refusal us ≡ none)
+pub low_first : (u : Unit) (us : List Unit) → end_refusal (u ∷ us) ≡ None → (u.target_end ≤ limit) × (end_refusal us ≡ None)
 unfolding end_refusal
 low_first u us e = by (leb u.target_end limit) refl e
   where
-    by : (t : Bool) → leb u.target_end limit ≡ t → pick t (end_refusal us) (some PastLimit) ≡ none → (u.target_end ≤ limit) × (end_refusal us ≡ none)
+    by : (t : Bool) → leb u.target_end limit ≡ t → pick t (end_refusal us) (Some PastLimit) ≡ None → (u.target_end ≤ limit) × (end_refusal us ≡ None)
     by true l e = (leb-true u.target_end limit l, e)
     by false l e = let z : ◌≡◌ {A = ℕ} 0 1 = cc in absurd (omega arith)
 
@@ -83,7 +83,7 @@ unit-takes natural v end_before mark u ms r =
 
 -- the units us are still to take, after `taken` periods that end at a mark; `left` are the marks that are left, and `all` is what the buffers will have
 pub record UnitsTaking (v : Voice) (natural : Bool) (us : List Unit) (end taken mark : ℕ) (left : List ℕ) (b all : PeriodBuffers) : Type 0 where
-  pub low : end_refusal (join_units natural v end us) ≡ none
+  pub low : end_refusal (join_units natural v end us) ≡ None
   pub end_low : end ≤ limit
   pub rising : Rising mark left
   pub room : HasRoom v taken mark (taken_from natural v end mark (join_units natural v end us) left) b
@@ -138,7 +138,7 @@ module _ (v : Voice) (natural : Bool) (us : List Unit) (end taken mark : ℕ) (l
   join_is : join_units natural v end us ≡ w ∷ after
   join_is = ap (join_units natural v end) e ∙ join_more natural v end u rest
 
-  lows : (w.target_end ≤ limit) × (end_refusal after ≡ none)
+  lows : (w.target_end ≤ limit) × (end_refusal after ≡ None)
   lows = low_first w after (sym (ap end_refusal join_is) ∙ k.low)
 
   takes : UnitTakes v s left₁

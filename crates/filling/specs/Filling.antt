@@ -1,6 +1,5 @@
 -- Inner: What is asked of a call whose buffers are filled, and what is left in them.
-use Rattle.std.specs.Prelude.{◌≡◌, Bool, true, List, ℕ, ◌+◌, ◌*◌, ◌≤◌, ◌<◌, length, take}
-use Rattle.std.proofs.Math.Option.{none}
+use Rattle.std.specs.Prelude.{◌≡◌, Bool, true, List, ℕ, ◌+◌, ◌*◌, ◌≤◌, ◌<◌, length, take, None, Ok}
 use Rattle.std.proofs.lemmas.List.Edits.{sets}
 use Rattle.base.specs.Choice.{pick}
 use Rattle.base.specs.Buffers.{flat}
@@ -10,7 +9,6 @@ use Rattle.voice.specs.Voice.{Voice, voice_of}
 use Rattle.voice.specs.Periods.{decode_room}
 use Rattle.voice.specs.Opening.{IsOpen}
 use Rattle.sheet.specs.declared.Places.{Places}
-use Rattle.sheet.specs.declared.SheetAnswer.TheVariants.{Read}
 use Rattle.sheet.specs.Sheet.{sheet_of}
 use Rattle.sheet.specs.Places.{answer_in, sheet_places}
 use Rattle.units.specs.declared.Selection.{Selection}
@@ -39,13 +37,13 @@ planned join file sheet by = plan_by join (voice_of file) (folded by.fold (sheet
 -- an open voice, its sorted index, and a sheet that was read
 pub record CanSelect (file index sheet : List ℕ) (by : Selection) : Type 0 where
   pub searchable : Searchable file index by
-  pub places : answer_in (sheet_places sheet) ≡ Read by.places
+  pub places : answer_in (sheet_places sheet) ≡ Ok by.places
 
 -- two segments or more, marks that are not refused, and room for `count` of them in n bytes; in the simple join these are all
 pub record CanStoreMarks (join : JoinType) (file index sheet : List ℕ) (by : Selection) (count n : ℕ) : Type 0 where
   pub selects : CanSelect file index sheet by
   pub two : 2 ≤ by.places.segments.count
-  pub spoken : (planned join file sheet by).refusal ≡ none
+  pub spoken : (planned join file sheet by).refusal ≡ None
   pub whole : is_simple join ≡ true → length (planned join file sheet by).marks ≤ count
   pub room : 4 * count ≤ n
 
@@ -53,7 +51,7 @@ pub record CanStoreMarks (join : JoinType) (file index sheet : List ℕ) (by : S
 pub record CanMark (join : JoinType) (file index sheet : List ℕ) (by : Selection) (n : ℕ) : Type 0 where
   pub selects : CanSelect file index sheet by
   pub two : 2 ≤ by.places.segments.count
-  pub spoken : (planned join file sheet by).refusal ≡ none
+  pub spoken : (planned join file sheet by).refusal ≡ None
   pub room : 4 * length (planned join file sheet by).marks ≤ n
 
 -- ---- the periods of the units
@@ -105,7 +103,7 @@ units_take natural file sheet by marks =
 pub record CanTakeUnits (natural : Bool) (file index sheet : List ℕ) (by : Selection) (marks : List ℕ) (b : PeriodBuffers) : Type 0 where
   pub selects : CanSelect file index sheet by
   pub some : 0 < by.places.segments.count
-  pub low : end_refusal (join_units natural (voice_of file) 0 (selected file sheet by)) ≡ none
+  pub low : end_refusal (join_units natural (voice_of file) 0 (selected file sheet by)) ≡ None
   pub rising : Rising 0 (elements 4 marks)
   pub room : HasRoom (voice_of file) 0 0 (units_take natural file sheet by marks) b
 
@@ -118,7 +116,7 @@ join_takes join file sheet by = taken (is_simple join) (voice_of file) (planned 
 pub record CanTakePeriods (join : JoinType) (file index sheet : List ℕ) (by : Selection) (count : ℕ) (marks : List ℕ) (b : PeriodBuffers) : Type 0 where
   pub selects : CanSelect file index sheet by
   pub two : 2 ≤ by.places.segments.count
-  pub spoken : (planned join file sheet by).refusal ≡ none
+  pub spoken : (planned join file sheet by).refusal ≡ None
   pub counted : count ≡ length (planned join file sheet by).marks
   pub stored : take (4 * count) marks ≡ flat (bytes_of 4) (planned join file sheet by).marks
   pub room : HasRoom (voice_of file) 0 0 (join_takes join file sheet by) b
@@ -134,7 +132,7 @@ pub record CanJoin (join : JoinType) (file index sheet : List ℕ) (by : Selecti
 -- the voice opens, the sheet was read, nothing refuses their call, and each buffer has what it needs
 pub record CanFill (file sheet : List ℕ) (o : Settings) (d : DiphoneVoice) (p : Places) (n : Need) (b : Buffers) : Type 0 where
   pub opened : IsOpen file d
-  pub places : answer_in (sheet_places sheet) ≡ Read p
-  pub passed : (plan_of (voice_of file) (sheet_of sheet) o).refusal ≡ none
+  pub places : answer_in (sheet_places sheet) ≡ Ok p
+  pub passed : (plan_of (voice_of file) (sheet_of sheet) o).refusal ≡ None
   pub need : n ≡ need_of (voice_of file) (sheet_of sheet) o
   pub room : holds n (lengths_of b) ≡ true

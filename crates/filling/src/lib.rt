@@ -27,10 +27,8 @@ fn store_natural_marks(file: &[u8], index: &[u8], sheet: &[u8], by: Selection, m
         over (flat (bytes_of 4) (planned joins.Simple file.now sheet.now by).marks)
         marks.old }
 {
-    let places = by.places;
-    let voice = by.voice;
-    let sampled = units::followers::sample(sheet, places);
-    let mut walk = units::step::first_unit(sheet, places);
+    let sampled = units::followers::sample(sheet, by.places);
+    let mut walk = units::step::first_unit(sheet, by.places);
     let mut place = 0;
     let mut i = 0;
     while units::step::has_unit(walk) {
@@ -38,7 +36,7 @@ fn store_natural_marks(file: &[u8], index: &[u8], sheet: &[u8], by: Selection, m
         let unit = step.unit;
         let first = unit.first_period;
         let last = unit.last_period;
-        place = marks::natural::store_unit_marks(file, voice, place, first, last, i, marks);
+        place = marks::natural::store_unit_marks(file, by.voice, place, first, last, i, marks);
         i += last - first;
         walk = step.walk;
     }
@@ -63,8 +61,7 @@ pub fn store_marks(
         JoinType::None => {}
         JoinType::Simple => store_natural_marks(file, index, sheet, by, marks),
         JoinType::ModifiedLpc => {
-            let places = by.places;
-            marks::store_marks(sheet, places, by.voice.header.rate, count, marks)
+            marks::store_marks(sheet, by.places, by.voice.header.rate, count, marks)
         }
     }
 }
@@ -102,21 +99,19 @@ fn take_units(
         (units_take natural file.now sheet.now by marks.now)
         (lent_periods sizes.old rows.old excitation.old decoded.old) }
 {
-    let places = by.places;
-    let voice = by.voice;
-    let sampled = units::followers::sample(sheet, places);
-    let mut walk = units::step::first_unit(sheet, places);
+    let sampled = units::followers::sample(sheet, by.places);
+    let mut walk = units::step::first_unit(sheet, by.places);
     let mut end = 0;
     let mut at = Progress {
         taken: 0,
         mark: 0,
-        front: voice.header.frames as usize,
+        front: by.voice.header.frames as usize,
     };
     while units::step::has_unit(walk) {
         let step = units::step::next_unit(file, index, sheet, by, &sampled, walk);
-        let unit = join_unit(file, voice, step.unit, natural, end);
+        let unit = join_unit(file, by.voice, step.unit, natural, end);
         at = taking::take_unit(
-            natural, file, voice, unit, end, marks, at, sizes, rows, excitation, decoded,
+            natural, file, by.voice, unit, end, marks, at, sizes, rows, excitation, decoded,
         );
         end = unit.target_end;
         walk = step.walk;
@@ -127,11 +122,7 @@ fn take_units(
 pub fn is_simple(join: JoinType) -> bool
     ensures { result ≡ is_simple join }
 {
-    match join {
-        JoinType::None => false,
-        JoinType::Simple => true,
-        JoinType::ModifiedLpc => false,
-    }
+    matches!(join, JoinType::Simple)
 }
 
 // Takes the periods of a join, by its `count` stored marks. Fewer than two marks give none.
@@ -229,15 +220,14 @@ pub fn fill(
         excitation.old decoded.old) }
 {
     opening::fill_index(file, voice, index);
-    let segments = places.segments;
-    if segments.count < 2 {
+    if places.segments.count < 2 {
         return;
     }
     let join = settings.join;
     let by = Selection {
-        voice: voice,
+        voice,
         held: Held::Sorted,
-        places: places,
+        places,
         fold: settings.fold,
     };
     fill_joined(

@@ -64,49 +64,28 @@ pub fn f64_to_f32(x: f64) -> f32
 pub fn f32_to_i32(x: f32) -> i32
     ensures { result ≡ to_signed 31 x }
 {
-    if x != x {
-        return 0; // a NaN
-    }
-    if x >= 2147483648.0 {
-        return 2147483647;
-    }
-    if x < -2147483648.0 {
-        return -2147483648;
-    }
-    std::num::truncating_f32_to_i64(x) as i32
+    std::num::saturating_f32_to_i32(x)
 }
 
 // x as i16: truncated toward zero, saturated, 0 at a NaN.
 pub fn f32_to_i16(x: f32) -> i16
     ensures { result ≡ to_signed 15 x }
 {
-    if x >= 32768.0 {
-        return 32767;
-    }
-    if x < -32768.0 {
-        return -32768;
-    }
-    f32_to_i32(x) as i16
+    std::num::saturating_f32_to_i16(x)
 }
 
 // x as usize: truncated toward zero, saturated, 0 below zero and at a NaN.
 pub fn f64_to_usize(x: f64) -> usize
     ensures { result ≡ to_unsigned 64 x }
 {
-    if x > -1.0 {
-        if x < 18446744073709551616.0 {
-            return std::num::truncating_f64_to_u64(x) as usize;
-        }
-        return 18446744073709551615;
-    }
-    0
+    std::num::saturating_f64_to_usize(x)
 }
 
 // x as usize.
 pub fn f32_to_usize(x: f32) -> usize
     ensures { result ≡ to_unsigned 64 x }
 {
-    f64_to_usize(std::num::f32_to_f64_with_nan(x))
+    std::num::saturating_f32_to_usize(x)
 }
 
 // x to the nearest whole number, an exact half going up; saturated, 0 below zero and at a NaN.
@@ -126,9 +105,6 @@ pub fn f32_to_nearest(x: f32) -> usize
 pub fn u32_to_f32(n: u32) -> f32
     ensures { result ≡ of_int binary32 (pos n) }
 {
-    if n <= 16777216 {
-        return n as f32;
-    }
     std::num::nearest_u32_to_f32(n)
 }
 
@@ -136,30 +112,21 @@ pub fn u32_to_f32(n: u32) -> f32
 pub fn f32_from_word(word: u32) -> f32
     ensures { result ≡ from_bits binary32 word }
 {
-    if word % 2147483648 > 2139095040 {
-        return 0.0 / 0.0;
-    }
-    f32::from_bits(word)
+    std::num::f32_from_bits_with_nan(word)
 }
 
 // The bit pattern of x, 0x7FC00000 for the NaN.
 pub fn f32_to_word(x: f32) -> u32
     ensures { result ≡ to_bits binary32 x }
 {
-    if x != x {
-        return 2143289344;
-    }
-    f32::to_bits(x)
+    std::num::f32_to_bits_with_nan(x)
 }
 
 // x.abs(): x with its sign cleared.
 pub fn f32_abs(x: f32) -> f32
     ensures { result ≡ abs x }
 {
-    if x != x {
-        return x;
-    }
-    f32::from_bits(f32::to_bits(x) % 2147483648)
+    x.abs()
 }
 
 // Whether a is nearer to p than b is.

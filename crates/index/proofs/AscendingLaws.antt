@@ -1,8 +1,8 @@
 -- Where no name stands twice, sort puts the names in ascending order and finds the same.
+use Rattle.std.specs.Prelude.{None, Option, Some}
 use mathlib.Core.Path.{◌≡◌, refl, sym, ap, ◌∙◌}
 use mathlib.Core.Bool.{Bool, true, false, not}
 use mathlib.Core.List.{List, [], ◌∷◌}
-use mathlib.Core.Option.{Option, none, some}
 use Prim.Native.Nat.{ℕ}
 use native.Mathlib.Omega.{arith}
 use borrow.Author.Tests.{not-true}
@@ -32,11 +32,11 @@ unfolding ascending
 ascending-cons p ps a b = rw (a, b)
 
 -- a name that is not the first of a list, and is not found in it, is not found in the rest
-pub other : (n : List ℕ) (q : Placed) (qs : List Placed) → lookup n (q ∷ qs) ≡ none → (same q.entry.name n ≡ false) × (lookup n qs ≡ none)
+pub other : (n : List ℕ) (q : Placed) (qs : List Placed) → lookup n (q ∷ qs) ≡ None → (same q.entry.name n ≡ false) × (lookup n qs ≡ None)
 unfolding lookup
 other n q qs e = go (same q.entry.name n) refl e
   where
-    go : (t : Bool) → same q.entry.name n ≡ t → pick t (some q.entry) (lookup n qs) ≡ none → (same q.entry.name n ≡ false) × (lookup n qs ≡ none)
+    go : (t : Bool) → same q.entry.name n ≡ t → pick t (Some q.entry) (lookup n qs) ≡ None → (same q.entry.name n ≡ false) × (lookup n qs ≡ None)
     go true s u = let o : ◌≡◌ {A = ℕ} 0 1 = cc in absurd (omega arith)
     go false s u = (s, u)
 
@@ -51,7 +51,7 @@ after a b p d = go (before b a) refl
     go true e = refl
     go false e = absurd (d (before-neither a b p e))
 
-insert-ascending : (p : Placed) (qs : List Placed) → lookup p.entry.name qs ≡ none → ascending qs ≡ true → ascending (insert p qs) ≡ true
+insert-ascending : (p : Placed) (qs : List Placed) → lookup p.entry.name qs ≡ None → ascending qs ≡ true → ascending (insert p qs) ≡ true
 unfolding ascending
 insert-ascending p [] e u = ap ascending (insert-none p)
 insert-ascending p (q ∷ qs) e u =
@@ -64,7 +64,7 @@ insert-ascending p (q ∷ qs) e u =
         ap ascending (insert-later p q qs b)
         ∙ ascending-cons q (insert p qs) (first-insert q.entry.name p qs (after p.entry.name q.entry.name b (λ d. differ q.entry.name p.entry.name s (sym d))) (ascending-first q qs u)) ih
 
-insert-lookup : (n : List ℕ) (p : Placed) (qs : List Placed) → lookup p.entry.name qs ≡ none → lookup n (insert p qs) ≡ lookup n (p ∷ qs)
+insert-lookup : (n : List ℕ) (p : Placed) (qs : List Placed) → lookup p.entry.name qs ≡ None → lookup n (insert p qs) ≡ lookup n (p ∷ qs)
 insert-lookup n p [] e = ap (lookup n) (insert-none p)
 insert-lookup n p (q ∷ qs) e =
     let o = other p.entry.name q qs e in
@@ -82,12 +82,12 @@ insert-lookup n p (q ∷ qs) e =
     go false b s ih false f false g =
         ap (lookup n) (insert-later p q qs b) ∙ lookup-next n q (insert p qs) g ∙ ih ∙ lookup-next n p qs f ∙ sym (lookup-next n p (q ∷ qs) f ∙ lookup-next n q qs g)
 
-none_of : (o : Option Entry) → is_some o ≡ false → o ≡ none
-none_of none e = refl
-none_of (some x) e = let o : ◌≡◌ {A = ℕ} 0 1 = cc in absurd (omega arith)
+none_of : (o : Option Entry) → is_some o ≡ false → o ≡ None
+none_of None e = refl
+none_of (Some x) e = let o : ◌≡◌ {A = ℕ} 0 1 = cc in absurd (omega arith)
 
 -- the tests of a list whose names are distinct
-pub distinct-parts : (p : Placed) (ps : List Placed) → distinct (p ∷ ps) ≡ true → (lookup p.entry.name ps ≡ none) × (distinct ps ≡ true)
+pub distinct-parts : (p : Placed) (ps : List Placed) → distinct (p ∷ ps) ≡ true → (lookup p.entry.name ps ≡ None) × (distinct ps ≡ true)
 unfolding distinct
 distinct-parts p ps u =
     let o = lookup p.entry.name ps in

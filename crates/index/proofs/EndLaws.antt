@@ -61,10 +61,10 @@ module _ (bs : List ℕ) (x : ℕ) where
     pub whole : (entries_from n bs at).whole ≡ true
     pub same : end_of n bs at ≡ x
 
-  pub ending-more : (n at : ℕ) → Ending n at → 0 < n → (next : ℕ) → (next ≡ next_entry bs at) × ((at + 5 ≤ next) × (next ≤ length bs)) → Ending (n - 1) next
-  ending-more n at e h next r =
+  pub ending-more : (n at m : ℕ) → m ≡ n - 1 → Ending n at → 0 < n → (next : ℕ) → (next ≡ next_entry bs at) × ((at + 5 ≤ next) × (next ≤ length bs)) → Ending m next
+  ending-more n at m d e h next r =
       let t = turn bs n at h e.whole in
-      record { within = r.1.1; whole = rw r.0 t.whole; same = rw r.0 (end-one bs n at h ∙ e.same) }
+      rw d (record { within = r.1.1; whole = rw r.0 t.whole; same = rw r.0 (end-one bs n at h ∙ e.same) })
 
   pub ending-end : (n at : ℕ) → Ending n at → n ≤ 0 → at ≡ x
   ending-end n at e h = sym (end_none bs n at h) ∙ e.same

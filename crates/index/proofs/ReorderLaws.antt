@@ -1,8 +1,8 @@
 -- Lists with the same elements; where no name stands twice they are sorted alike.
+use Rattle.std.specs.Prelude.{None}
 use mathlib.Core.Path.{◌≡◌, refl, sym, ap, ◌∙◌}
 use mathlib.Core.Bool.{Bool, true, false}
 use mathlib.Core.List.{List, [], ◌∷◌}
-use mathlib.Core.Option.{none}
 use Prim.Native.Nat.{ℕ}
 use Rattle.base.specs.Perm.{Perm, stay, skip, swap, then}
 use Rattle.text.specs.Names.{same, before}
@@ -60,7 +60,7 @@ same_back a b d = go (same b a) refl
     go true e = not-both (same a b) (ap (same a) (same-eq b a e) ∙ same_refl a) d
     go false e = refl
 
-pub perm-missing : {ps qs : List Placed} → Perm ps qs → (n : List ℕ) → lookup n qs ≡ none → lookup n ps ≡ none
+pub perm-missing : {ps qs : List Placed} → Perm ps qs → (n : List ℕ) → lookup n qs ≡ None → lookup n ps ≡ None
 perm-missing stay n e = e
 perm-missing (skip x {xs} {ys} p) n e = let o = other n x ys e in lookup-next n x xs o.0 ∙ perm-missing p n o.1
 perm-missing (swap x y xs) n e =
@@ -69,7 +69,7 @@ perm-missing (swap x y xs) n e =
     lookup-next n x (y ∷ xs) u.0 ∙ lookup-next n y xs o.0 ∙ u.1
 perm-missing (then p q) n e = perm-missing p n (perm-missing q n e)
 
-distinct_cons : (p : Placed) (ps : List Placed) → lookup p.entry.name ps ≡ none → distinct ps ≡ true → distinct (p ∷ ps) ≡ true
+distinct_cons : (p : Placed) (ps : List Placed) → lookup p.entry.name ps ≡ None → distinct ps ≡ true → distinct (p ∷ ps) ≡ true
 unfolding distinct
 distinct_cons p ps e u = rw (e, u)
 
@@ -85,7 +85,7 @@ perm-sort (swap x y xs) u =
     let d = distinct-parts y (x ∷ xs) u in
     let o = other y.entry.name x xs d.0 in
     let e = distinct-parts x xs d.1 in
-    let m : lookup x.entry.name (y ∷ xs) ≡ none = lookup-next x.entry.name y xs (same_back x.entry.name y.entry.name o.0) ∙ e.0 in
+    let m : lookup x.entry.name (y ∷ xs) ≡ None = lookup-next x.entry.name y xs (same_back x.entry.name y.entry.name o.0) ∙ e.0 in
     (distinct_cons x (y ∷ xs) m (distinct_cons y xs o.1 e.1), insert-either x y o.0 (sort xs))
 perm-sort (then p q) u =
     let h = perm-sort q u in

@@ -11,7 +11,7 @@ ghost use Rattle.index.specs.Index.{Small, Indexable, periods_of};
 ghost use Rattle.index.specs.Index.{ascending, end_of, index_of, sorted_from};
 ghost use Rattle.index.specs.Shuffle.{Shuffled, name_in};
 
-use text::Order;
+use std::cmp::Ordering;
 
 // The numbers of an entry: its first pitch period, and how many its two halves have.
 #[derive(Clone, Copy)]
@@ -21,28 +21,13 @@ pub struct EntryPeriods {
     pub second: usize,
 }
 
-// What the index has under a name.
-#[derive(Clone, Copy)]
-pub enum FoundEntry {
-    Found(EntryPeriods),
-    Missing,
-}
-
-// The byte at a place.
-fn byte_at(entries: &[u8], at: usize) -> usize
-    requires { at < length entries.now }
-    ensures { (result ≡ get_or entries.now at 0) × (result ≤ 255) }
-{
-    entries[at] as usize
-}
-
 // Where the next entry begins.
 pub fn next_entry(entries: &[u8], at: usize) -> usize
     requires { next_entry entries.now at ≤ length entries.now }
     ensures { (result ≡ next_entry entries.now at) ×
         ((at + 5 ≤ result) × (result ≤ length entries.now)) }
 {
-    at + 5 + byte_at(entries, at)
+    at + 5 + entries[at] as usize
 }
 
 // Where the entry after `count` entries from a place on begins.
@@ -51,10 +36,8 @@ pub fn entry_after(entries: &[u8], from: usize, count: usize) -> usize
     ensures { (result ≡ end_of count entries.now from) × (result ≤ length entries.now) }
 {
     let mut at = from;
-    let mut left = count;
-    while 0 < left {
+    for _ in 0..count {
         at = next_entry(entries, at);
-        left -= 1;
     }
     at
 }
@@ -65,7 +48,7 @@ pub fn name_at(entries: &[u8], at: usize) -> &[u8]
     ensures { result.now ≡ (entry_at entries.now at).name }
 {
     let from = at + 1;
-    let to = from + byte_at(entries, at);
+    let to = from + entries[at] as usize;
     &entries[from..to]
 }
 
@@ -73,13 +56,9 @@ pub fn name_at(entries: &[u8], at: usize) -> &[u8]
 fn is_whole(entries: &[u8], at: usize) -> bool
     ensures { result ≡ whole_entry entries.now at }
 {
-    if entries.len() <= at {
-        return false;
-    }
-    if entries.len() < at + 5 + byte_at(entries, at) {
-        return false;
-    }
-    text::utf8(name_at(entries, at))
+    at < entries.len()
+        && at + 5 + entries[at] as usize <= entries.len()
+        && text::utf8(name_at(entries, at))
 }
 
 // Whether the index has `count` entries, none cut short, each name UTF-8.
@@ -87,14 +66,11 @@ pub fn has_whole_entries(entries: &[u8], count: usize) -> bool
     ensures { result ≡ (entries_from count entries.now 0).whole }
 {
     let mut at = 0;
-    let mut left = count;
-    while 0 < left {
-        if is_whole(entries, at) {
-            at = next_entry(entries, at);
-            left -= 1;
-        } else {
+    for _ in 0..count {
+        if !is_whole(entries, at) {
             return false;
         }
+        at = next_entry(entries, at);
     }
     true
 }
@@ -104,11 +80,11 @@ pub fn periods_at(entries: &[u8], at: usize) -> EntryPeriods
     requires { next_entry entries.now at ≤ length entries.now }
     ensures { (result ≡ periods_of (entry_at entries.now at)) × Small result }
 {
-    let place = at + 1 + byte_at(entries, at);
+    let place = at + 1 + entries[at] as usize;
     EntryPeriods {
         start: base::bytes::read_u16(entries, place) as usize,
-        first: byte_at(entries, place + 2),
-        second: byte_at(entries, place + 3),
+        first: entries[place + 2] as usize,
+        second: entries[place + 3] as usize,
     }
 }
 
@@ -118,14 +94,12 @@ pub fn ends_within(entries: &[u8], count: usize, frames: usize) -> bool
     ensures { result ≡ within_frames frames (entries_from count entries.now 0).list }
 {
     let mut at = 0;
-    let mut left = count;
-    while 0 < left {
+    for _ in 0..count {
         let e = periods_at(entries, at);
         if frames < e.start + e.first + e.second {
             return false;
         }
         at = next_entry(entries, at);
-        left -= 1;
     }
     true
 }
@@ -134,11 +108,7 @@ pub fn ends_within(entries: &[u8], count: usize, frames: usize) -> bool
 pub fn name_before(a: &[u8], b: &[u8]) -> bool
     ensures { result ≡ before a.now b.now }
 {
-    match text::compare(a, b) {
-        Order::Before => true,
-        Order::Same => false,
-        Order::After => false,
-    }
+    text::compare(a, b) == Ordering::Less
 }
 
 // Whether the name of the entry at place a stands before that at place b.
@@ -156,15 +126,12 @@ pub fn is_ascending(entries: &[u8], count: usize) -> bool
     ensures { result ≡ ascending (entries_from count entries.now 0).list }
 {
     let mut at = 0;
-    let mut left = count;
-    while 1 < left {
+    for _ in 1..count {
         let next = next_entry(entries, at);
-        if stands_before(entries, at, next) {
-            at = next;
-            left -= 1;
-        } else {
+        if !stands_before(entries, at, next) {
             return false;
         }
+        at = next;
     }
     true
 }
@@ -176,11 +143,9 @@ fn store_places(entries: &[u8], count: usize, base: usize, index: &mut [u8])
         over (index_of base (entries_from count entries.now 0).list) index.old }
 {
     let mut at = 0;
-    let mut i = 0;
-    while i < count {
+    for i in 0..count {
         base::bytes::put_u64(index, i, (base + at) as u64);
         at = next_entry(entries, at);
-        i += 1;
     }
 }
 
@@ -194,17 +159,15 @@ fn insert_place(entries: &[u8], count: usize, base: usize, index: &mut [u8], i: 
         over (index_of base (sorted_from i (entries_from count entries.now 0).list)) index.old }
 {
     let place = base::bytes::u64_at(index, i);
-    let mut j = i + 1;
-    while j < count {
+    for j in i + 1..count {
         let next = base::bytes::u64_at(index, j);
         if stands_before(entries, place as usize - base, next as usize - base) {
             base::bytes::put_u64(index, j - 1, place);
             return;
         }
         base::bytes::put_u64(index, j - 1, next);
-        j += 1;
     }
-    base::bytes::put_u64(index, j - 1, place);
+    base::bytes::put_u64(index, count - 1, place);
 }
 
 // Sorts the places that stand in file order at the front of the index.
@@ -214,9 +177,7 @@ fn sort_places(entries: &[u8], count: usize, base: usize, index: &mut [u8])
     ensures { index.new ≡
         over (index_of base (sort (entries_from count entries.now 0).list)) index.old }
 {
-    let mut i = count;
-    while 0 < i {
-        i -= 1;
+    for i in (0..count).rev() {
         insert_place(entries, count, base, index, i);
     }
 }
@@ -247,11 +208,8 @@ pub fn is_ordered(entries: &[u8], count: usize, base: usize, index: &[u8]) -> bo
     ensures { (s : Shuffled entries.now count base index.now index.now) →
         result ≡ ascending s.places }
 {
-    let mut i = 1;
-    while i < count {
-        if places_ascend(entries, count, base, index, i - 1, i) {
-            i += 1;
-        } else {
+    for i in 1..count {
+        if !places_ascend(entries, count, base, index, i - 1, i) {
             return false;
         }
     }
@@ -283,12 +241,11 @@ fn later_place(
         ((child < end) × (end ≤ count)) }
     ensures { (child ≤ result) × (result < end) }
 {
-    if child + 1 < end {
-        if places_ascend(entries, count, base, index, child, child + 1) {
-            return child + 1;
-        }
+    if child + 1 < end && places_ascend(entries, count, base, index, child, child + 1) {
+        child + 1
+    } else {
+        child
     }
-    child
 }
 
 // Lets the entry at place `root` sink in the heap that ends at `end`, below those that stand later.
@@ -299,12 +256,11 @@ fn sink_place(entries: &[u8], count: usize, base: usize, index: &mut [u8], root:
     let mut at = root;
     while at < end / 2 {
         let child = later_place(entries, count, base, index, 2 * at + 1, end);
-        if places_ascend(entries, count, base, index, at, child) {
-            exchange_places(entries, count, base, index, at, child);
-            at = child;
-        } else {
+        if !places_ascend(entries, count, base, index, at, child) {
             return;
         }
+        exchange_places(entries, count, base, index, at, child);
+        at = child;
     }
 }
 
@@ -313,9 +269,7 @@ fn build_heap(entries: &[u8], count: usize, base: usize, index: &mut [u8])
     requires { Shuffled entries.now count base index.old index.old }
     ensures { Shuffled entries.now count base index.old index.new }
 {
-    let mut i = count / 2;
-    while 0 < i {
-        i -= 1;
+    for i in (0..count / 2).rev() {
         sink_place(entries, count, base, index, i, count);
     }
 }
@@ -325,9 +279,7 @@ fn empty_heap(entries: &[u8], count: usize, base: usize, index: &mut [u8])
     requires { Shuffled entries.now count base index.old index.old }
     ensures { Shuffled entries.now count base index.old index.new }
 {
-    let mut end = count;
-    while 1 < end {
-        end -= 1;
+    for end in (1..count).rev() {
         exchange_places(entries, count, base, index, 0, end);
         sink_place(entries, count, base, index, 0, end);
     }
@@ -376,8 +328,7 @@ pub fn fill_index(entries: &[u8], count: usize, base: usize, index: &mut [u8])
     ensures { index.new ≡
         over (index_of base (sort (entries_from count entries.now 0).list)) index.old }
 {
-    if order_places(entries, count, base, index) {
-        return;
+    if !order_places(entries, count, base, index) {
+        insert_places(entries, count, base, index);
     }
-    insert_places(entries, count, base, index);
 }

@@ -1,7 +1,7 @@
 -- A8: of every call that is not refused.
+use Rattle.std.specs.Prelude.{None}
 use mathlib.Core.Path.{◌≡◌}
 use mathlib.Core.List.{List}
-use mathlib.Core.Option.{none}
 use Prim.Native.Nat.{ℕ}
 use Rattle.voice.specs.Voice.{voice_of}
 use Rattle.sheet.specs.Sheet.{sheet_of}
@@ -13,7 +13,7 @@ use Rattle.joint.specs.Claims.{JointKept}
 use Rattle.joint.proofs.ListLaws.{changed-means, changed-says}
 use Rattle.joint.proofs.JointLaws.{others_same, periods-kept, samples-kept, report-kept, period-differs, line-differs}
 
-pub joint-kept : (file sheet : List ℕ) (o : Settings) → check_refusal file sheet o ≡ none → JointKept (voice_of file) (sheet_of sheet) o
+pub joint-kept : (file sheet : List ℕ) (o : Settings) → check_refusal file sheet o ≡ None → JointKept (voice_of file) (sheet_of sheet) o
 joint-kept file sheet o e =
     let v = voice_of file in
     let s = sheet_of sheet in

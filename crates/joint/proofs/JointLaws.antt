@@ -1,8 +1,8 @@
 -- What a call takes and reports is as it was outside of the list; no size, no byte and no sample moves.
+use Rattle.std.specs.Prelude.{None}
 use mathlib.Core.Path.{◌≡◌, refl, sym, ap, ◌∙◌}
 use mathlib.Core.Bool.{Bool, true, false}
 use mathlib.Core.List.{List, [], ◌∷◌, ◌++◌, map}
-use mathlib.Core.Option.{none}
 use Prim.Native.Nat.{ℕ, zero, suc, ◌+◌, ◌*◌, ◌≤◌}
 use native.Mathlib.Omega.{arith}
 use lib.Dec.{ltb}
@@ -122,7 +122,7 @@ module _ (v : Voice) where
   abbrev MovesBy : JoinType → Plan → Type 0
   MovesBy j p = Moves (listed_by j p) (steps_taken false p) (steps_taken (is_simple j) p)
 
-  simple-moves : (n : ℕ) (us : List Unit) → Numbered n 0 us → (simple_plan v us).refusal ≡ none → MovesBy Simple (simple_plan v us)
+  simple-moves : (n : ℕ) (us : List Unit) → Numbered n 0 us → (simple_plan v us).refusal ≡ None → MovesBy Simple (simple_plan v us)
   unfolding simple_plan flat
   simple-moves n us k e =
       let ns = natural_units v 0 us in
@@ -131,18 +131,18 @@ module _ (v : Voice) where
       (λ l. rw (few-shares false ns ms l, few-shares true ns ms l) step.none)
       (λ l. rw (two-shares false ns ms l, two-shares true ns ms l, own-shares v 0 us) (both-rules v n us k (units-short v 0 us (omega arith) (refusal-low most_marks ms e))))
 
-  by-moves : (n : ℕ) (j : JoinType) (ss : List SegmentRead) (ts : List Target) → Numbered n 0 (units_of v ss) → (plan_by j v ss ts).refusal ≡ none → MovesBy j (plan_by j v ss ts)
+  by-moves : (n : ℕ) (j : JoinType) (ss : List SegmentRead) (ts : List Target) → Numbered n 0 (units_of v ss) → (plan_by j v ss ts).refusal ≡ None → MovesBy j (plan_by j v ss ts)
   unfolding plan_by
   by-moves n None ss ts k e = step.rest
   by-moves n Simple ss ts k e = simple-moves n (units_of v ss) k e
   by-moves n ModifiedLpc ss ts k e = step.rest
 
   module _ (s : Sheet) (o : Settings) where
-    plan-moves : (plan_of v s o).refusal ≡ none → MovesBy o.join (plan_of v s o)
+    plan-moves : (plan_of v s o).refusal ≡ None → MovesBy o.join (plan_of v s o)
     unfolding plan_of shares flat
     plan-moves e = by (ltb (length s.segments) 2) e
       where
-        by : (t : Bool) → (two_segments t (plan_by o.join v (folded o.fold s.segments) s.targets)).refusal ≡ none
+        by : (t : Bool) → (two_segments t (plan_by o.join v (folded o.fold s.segments) s.targets)).refusal ≡ None
             → MovesBy o.join (two_segments t (plan_by o.join v (folded o.fold s.segments) s.targets))
         by true e = step.none
         by false e = by-moves (length s.segments) o.join (folded o.fold s.segments) s.targets (units-numbered v o.fold s.segments) e
@@ -157,7 +157,7 @@ module _ (v : Voice) where
     unfolding periods_taken old_periods report_of old_report
     others_same e = (ap (λ (t : Bool). taken t v plan.units plan.marks) e, ap (λ (t : Bool). lines_of t plan.units plan.marks) e)
 
-    module _ (spoken : (plan_of v s o).refusal ≡ none) where
+    module _ (spoken : (plan_of v s o).refusal ≡ None) where
       -- 'no sample and no size moves'
       pub periods-kept : Kept v (changed v s o) (old_periods v s o) (periods_taken v s o)
       unfolding changed old_periods periods_taken taken

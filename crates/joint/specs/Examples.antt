@@ -1,6 +1,5 @@
 -- Document 02, A8: document 01's example with empty periods, by both rules.
-use Rattle.std.specs.Prelude.{◌≡◌, Bool, true, false, List, [], ◌∷◌, map, ℕ, length}
-use Rattle.std.proofs.Math.Option.{Option, none}
+use Rattle.std.specs.Prelude.{◌≡◌, Bool, true, false, List, [], ◌∷◌, map, ℕ, length, None, Option}
 use Rattle.base.specs.Text.{ascii}
 use Rattle.base.specs.Buffers.{flat}
 use Rattle.base.specs.Bytes.{bytes_of}
@@ -69,7 +68,7 @@ new_rows file = sizes_and_rows (periods_taken (voice_of file) sheet program_sett
 
 -- the empty period of half 2 was half 1's, with half 1's row
 pub record Shortest : Type 0 where
-  pub spoken : refusal_on shortest_voice ≡ none
+  pub spoken : refusal_on shortest_voice ≡ None
   pub listed : listed_on shortest_voice ≡ false ∷ true ∷ []
   pub lines_before : old_lines shortest_voice ≡ (1 ∷ 1 ∷ 0 ∷ 0 ∷ []) ∷ (1 ∷ 1 ∷ 0 ∷ 0 ∷ []) ∷ []
   pub lines_now : new_lines shortest_voice ≡ (1 ∷ 1 ∷ 0 ∷ 0 ∷ []) ∷ (1 ∷ 2 ∷ 0 ∷ 0 ∷ []) ∷ []
@@ -78,7 +77,7 @@ pub record Shortest : Type 0 where
 
 -- the same between periods with samples, which stay
 pub record Joint : Type 0 where
-  pub spoken : refusal_on joint_voice ≡ none
+  pub spoken : refusal_on joint_voice ≡ None
   pub listed : listed_on joint_voice ≡ false ∷ true ∷ false ∷ []
   pub lines_before : old_lines joint_voice ≡ (1 ∷ 1 ∷ 0 ∷ 2 ∷ []) ∷ (1 ∷ 1 ∷ 2 ∷ 0 ∷ []) ∷ (1 ∷ 2 ∷ 2 ∷ 3 ∷ []) ∷ []
   pub lines_now : new_lines joint_voice ≡ (1 ∷ 1 ∷ 0 ∷ 2 ∷ []) ∷ (1 ∷ 2 ∷ 2 ∷ 0 ∷ []) ∷ (1 ∷ 2 ∷ 2 ∷ 3 ∷ []) ∷ []
@@ -88,5 +87,5 @@ pub record Joint : Type 0 where
 
 -- no empty period of the first unit is on the list, and none after a period with samples
 pub record Alone : Type 0 where
-  pub spoken : refusal_on empty_voice ≡ none
+  pub spoken : refusal_on empty_voice ≡ None
   pub listed : listed_on empty_voice ≡ false ∷ false ∷ false ∷ true ∷ false ∷ false ∷ []

@@ -1,7 +1,7 @@
 -- Demand 3, over the definitions and over the contracts.
+use Rattle.std.specs.Prelude.{Err, None, Ok, Option, Result, Some}
 use mathlib.Core.Path.{◌≡◌, refl, sym, ap, subst, ◌∙◌}
 use mathlib.Core.List.{List, []}
-use mathlib.Core.Option.{Option, none as nothing, some}
 use Prim.Native.Nat.{ℕ, ◌*◌, ◌/◌, ◌≤◌, ◌<◌}
 use native.Mathlib.Nat.{le_of_eq, zero-add}
 use native.Mathlib.Omega.{arith}
@@ -23,11 +23,8 @@ use Rattle.lpc.specs.declared.FilterState.{FilterState}
 use Rattle.call.specs.declared.Settings.{Settings}
 use Rattle.call.specs.Call.{plan_of, periods_taken, filter_in, periods_of, samples_of_call}
 use Rattle.call.specs.declared.Summary.{Summary}
-use Rattle.call.specs.declared.Called.{Called}
-use Rattle.call.specs.declared.Called.TheVariants.{Spoken}
 use Rattle.call.specs.declared.Planned.{Planned}
 use Rattle.call.specs.Buffers.{Buffers, call_refusal, summary_of, answer_by, planned_of, buffers_after, fresh_of}
-use Rattle.call.specs.declared.Answer.TheVariants.{Done, Refused}
 use Rattle.call.specs.Pull.{lent_of, pull_of}
 use Rattle.call.specs.Machine.{Shown, pulls, shows, machine, written, samples_written, bytes_of_periods, given, SaysDone}
 use Rattle.call.proofs.PullLaws.{shows-done, fresh-machine}
@@ -127,7 +124,7 @@ module _ (c : SpokenCall) (ds : List (List ℕ)) (i : ℕ) (h : i < length ds) w
   at-pull =
       let ps = periods_in c in
       subst (λ (os : List Shown). answer_at os i ≡ (shows ps (given_before os i) (get_or ds i [])).answer) (sym (whole-lists c ds))
-      (ap (λ (o : Shown). o.answer) (machine-at ps ds 0 i (record { answer = Done; slice = [] }) h)
+      (ap (λ (o : Shown). o.answer) (machine-at ps ds 0 i (record { answer = Ok None; slice = [] }) h)
       ∙ ap (λ (n : ℕ). (shows ps n (get_or ds i [])).answer) (zero-add (given (take i (machine ps 0 ds)))))
 
   low : given_before os i ≤ length (periods_in c)
@@ -135,13 +132,13 @@ module _ (c : SpokenCall) (ds : List (List ℕ)) (i : ℕ) (h : i < length ds) w
       subst (λ (os : List Shown). given_before os i ≤ length (periods_in c)) (sym (whole-lists c ds))
       (let w = before-within (periods_in c) ds 0 i (omega arith) in omega arith)
 
-  pull-done : answer_at os i ≡ Done → given_before os i ≡ length (periods_in c)
+  pull-done : answer_at os i ≡ Ok None → given_before os i ≡ length (periods_in c)
   pull-done e = shows-done-all (periods_in c) (given_before os i) (get_or ds i []) low (sym at-pull ∙ e)
 
-  pull-all : given_before os i ≡ length (periods_in c) → answer_at os i ≡ Done
+  pull-all : given_before os i ≡ length (periods_in c) → answer_at os i ≡ Ok None
   pull-all q = at-pull ∙ ap (λ (o : Shown). o.answer) (shows-done (periods_in c) (given_before os i) (get_or ds i []) q)
 
-  pull-refused : (r : Refusal) → answer_at os i ≡ Refused r → (r ≡ ShortSlice) × (length (get_or ds i []) / 2 < length (get_or (periods_in c) (given_before os i) []))
+  pull-refused : (r : Refusal) → answer_at os i ≡ Err r → (r ≡ ShortSlice) × (length (get_or ds i []) / 2 < length (get_or (periods_in c) (given_before os i) []))
   pull-refused r e = shows-refused (periods_in c) (given_before os i) (get_or ds i []) r low (sym at-pull ∙ e)
 
 lists : (c : SpokenCall) (ds : List (List ℕ)) → WholeLists c ds (pulls_after c ds)
@@ -194,21 +191,21 @@ made-pulls b s _ _ (more {ds} {os} κs _ sizes rows excitation samples r left hz
 pub plan-made : (file sheet : List ℕ) (o : Settings) (b after : Buffers) (r : Planned) → PlanMade file sheet o b r after → (r ≡ planned_of file sheet o b) × (after ≡ buffers_after file sheet o b)
 plan-made _ _ _ _ _ _ (made κs voice sheet l o r after post) = (post.0, post.1)
 
-answer-none : (v : Voice) (s : Sheet) (o : Settings) (m : Summary) (u : Option Refusal) → (answer_by v s o u).answer ≡ Spoken m → u ≡ nothing
-answer-none v s o m nothing e = refl
-answer-none v s o m (some c) e = let z : ◌≡◌ {A = ℕ} 0 1 = cc in absurd (omega arith)
+answer-none : (v : Voice) (s : Sheet) (o : Settings) (m : Summary) (u : Option Refusal) → (answer_by v s o u).answer ≡ Ok m → u ≡ None
+answer-none v s o m None e = refl
+answer-none v s o m (Some c) e = let z : ◌≡◌ {A = ℕ} 0 1 = cc in absurd (omega arith)
 
-made-spoken : (file sheet : List ℕ) (o : Settings) (b after : Buffers) (r : Planned) (m : Summary) → PlanMade file sheet o b r after → r.answer ≡ Spoken m → call_refusal file sheet o b ≡ nothing
+made-spoken : (file sheet : List ℕ) (o : Settings) (b after : Buffers) (r : Planned) (m : Summary) → PlanMade file sheet o b r after → r.answer ≡ Ok m → call_refusal file sheet o b ≡ None
 unfolding planned_of
 made-spoken file sheet o b after r m p e =
     answer-none (voice_of file) (sheet_of sheet) o m (call_refusal file sheet o b) (sym (ap (λ (x : Planned). x.answer) (plan-made file sheet o b after r p).0) ∙ e)
 
-spoken-made : (file sheet : List ℕ) (o : Settings) (b after : Buffers) (r : Planned) → PlanMade file sheet o b r after → call_refusal file sheet o b ≡ nothing
-    → r.answer ≡ Spoken (summary_of (voice_of file) (sheet_of sheet) o)
+spoken-made : (file sheet : List ℕ) (o : Settings) (b after : Buffers) (r : Planned) → PlanMade file sheet o b r after → call_refusal file sheet o b ≡ None
+    → r.answer ≡ Ok (summary_of (voice_of file) (sheet_of sheet) o)
 unfolding planned_of
 spoken-made file sheet o b after r p e = ap (λ (x : Planned). x.answer) ((plan-made file sheet o b after r p).0 ∙ ap (answer_by (voice_of file) (sheet_of sheet) o) e)
 
-pub same-summary : {m n : Summary} → ◌≡◌ {A = Called} (Spoken m) (Spoken n) → m ≡ n
+pub same-summary : {m n : Summary} → ◌≡◌ {A = Result Summary Refusal} (Ok m) (Ok n) → m ≡ n
 same-summary e = cc
 
 made_after : (c : SpokenCall) (ds : List (List ℕ)) (os : List Shown) → MadeAfter c ds os → os ≡ pulls_after c ds

@@ -1,8 +1,8 @@
 -- Calls and pulls that a program in C made show what the definitions do.
+use Rattle.std.specs.Prelude.{None}
 use mathlib.Core.Path.{◌≡◌, refl, sym, ap, subst, ◌∙◌}
 use mathlib.Core.Bool.{Bool, true, false}
 use mathlib.Core.List.{List, ◌∷◌}
-use mathlib.Core.Option.{none as nothing}
 use Prim.Native.Nat.{ℕ, ◌/◌, ◌^◌, ◌≤◌, ◌<◌}
 use native.Mathlib.Omega.{arith}
 use lib.Dec.{T, ltb}
@@ -86,16 +86,16 @@ pub plan-in-c : (file sheet : List ℕ) (o : Settings) (h : Handed) (r : ℕ) (a
     → PlanEnds file sheet o h r after
 plan-in-c _ _ _ _ _ _ (made κs voice sheet settings l state summary r after post) = (post.0, post.1)
 
-pub spoken-in-c : (file sheet : List ℕ) (o : Settings) (h after : Handed) → PlanMadeInC file sheet o h 0 after → call_refusal file sheet o h.buffers ≡ nothing
+pub spoken-in-c : (file sheet : List ℕ) (o : Settings) (h after : Handed) → PlanMadeInC file sheet o h 0 after → call_refusal file sheet o h.buffers ≡ None
 unfolding refusal_of_plan
 spoken-in-c file sheet o h after p = (next-none (call_refusal file sheet o h.buffers) _ (answered-none (refusal_of_plan file sheet o h) (plan-in-c file sheet o h 0 after p).0)).0
 
-pub in-c-spoken : (file sheet : List ℕ) (o : Settings) (h : Handed) (r : ℕ) (after : Handed) → PlanMadeInC file sheet o h r after → call_refusal file sheet o h.buffers ≡ nothing
+pub in-c-spoken : (file sheet : List ℕ) (o : Settings) (h : Handed) (r : ℕ) (after : Handed) → PlanMadeInC file sheet o h r after → call_refusal file sheet o h.buffers ≡ None
     → 168 ≤ length h.state → 48 ≤ length h.summary → r ≡ 0
 in-c-spoken file sheet o h r after p e j k = (plan-in-c file sheet o h r after p).0 ∙ ap answer_of (by_call file sheet o h j k ∙ e)
 
 -- what it left
-pub left-in-c : (file sheet : List ℕ) (o : Settings) (h after : Handed) → PlanMadeInC file sheet o h 0 after → after ≡ handed_by file sheet o h nothing
+pub left-in-c : (file sheet : List ℕ) (o : Settings) (h after : Handed) → PlanMadeInC file sheet o h 0 after → after ≡ handed_by file sheet o h None
 unfolding handed_after
 left-in-c file sheet o h after p =
     let e = plan-in-c file sheet o h 0 after p in

@@ -1,16 +1,15 @@
 -- Every spoken call can be made and pulled from in C.
+use Rattle.std.specs.Prelude.{None, Option, Some}
+use Rattle.lpc.specs.declared.ResynthType.{ResynthType}
 use mathlib.Core.Path.{◌≡◌, refl, sym, ap, subst, ◌∙◌}
 use mathlib.Core.Bool.{Bool, true, false}
 use mathlib.Core.List.{List, [], ◌∷◌}
-use mathlib.Core.Option.{none as nothing}
 use Prim.Native.Nat.{ℕ, ◌+◌, ◌*◌, ◌/◌, ◌%◌, ◌≤◌}
 use native.Mathlib.Omega.{arith}
 use lib.ListN.{replicate}
 use Rattle.lpc.specs.declared.ResynthType.TheVariants.{Fixed, Float}
 use Rattle.call.specs.declared.JoinType.{JoinType}
 use Rattle.call.specs.declared.JoinType.TheVariants.{None, Simple, ModifiedLpc}
-use Rattle.call.specs.declared.FilterSetting.{FilterSetting}
-use Rattle.call.specs.declared.FilterSetting.TheVariants.{Unnamed, Named}
 use Rattle.call.specs.declared.Settings.{Settings}
 use Rattle.call.specs.Numbers.{join_of, filter_of, is_set, settings_of}
 use Rattle.call.specs.Machine.{Shown}
@@ -30,10 +29,10 @@ join_number None = 0
 join_number Simple = 1
 join_number ModifiedLpc = 2
 
-abbrev filter_number : FilterSetting → ℕ
-filter_number Unnamed = 0
-filter_number (Named Fixed) = 1
-filter_number (Named Float) = 2
+abbrev filter_number : Option ResynthType → ℕ
+filter_number None = 0
+filter_number (Some Fixed) = 1
+filter_number (Some Float) = 2
 
 abbrev bit : Bool → ℕ
 bit false = 0
@@ -56,11 +55,11 @@ join-said None = (omega arith, refl)
 join-said Simple = (omega arith, refl)
 join-said ModifiedLpc = (omega arith, refl)
 
-filter-said : (f : FilterSetting) → (filter_number f ≤ 3) × (filter_of (filter_number f) ≡ f)
+filter-said : (f : Option ResynthType) → (filter_number f ≤ 3) × (filter_of (filter_number f) ≡ f)
 unfolding filter_of
-filter-said Unnamed = (omega arith, refl)
-filter-said (Named Fixed) = (omega arith, refl)
-filter-said (Named Float) = (omega arith, refl)
+filter-said None = (omega arith, refl)
+filter-said (Some Fixed) = (omega arith, refl)
+filter-said (Some Float) = (omega arith, refl)
 
 bit-said : (b : Bool) → (bit b ≤ 1) × (is_set (bit b) ≡ b)
 bit-said false = (omega arith, refl)
@@ -76,7 +75,7 @@ said o =
     let p = parts (join_number o.join) (filter_number o.filter) (bit o.fold) (bit o.strict) j.0 f.0 b.0 s.0 in
     by (ap join_of p.0 ∙ j.1) (ap filter_of p.1.0 ∙ f.1) (ap is_set p.1.1.0 ∙ b.1) (ap is_set p.1.1.1 ∙ s.1)
   where
-    by : {j k : JoinType} {f g : FilterSetting} {b c s t : Bool} → j ≡ k → f ≡ g → b ≡ c → s ≡ t
+    by : {j k : JoinType} {f g : Option ResynthType} {b c s t : Bool} → j ≡ k → f ≡ g → b ≡ c → s ≡ t
         → ◌≡◌ {A = Settings} (record { join = j; filter = f; fold = b; strict = s }) (record { join = k; filter = g; fold = c; strict = t })
     by x y z w = cc
 
@@ -98,9 +97,9 @@ pulls-exist b w (d ∷ ds) =
           refl refl refl (refl, (refl, refl)) i.made;
     }
 
-plan-exists : (file sheet : List ℕ) (o : Settings) (h : Handed) → refusal_of_plan file sheet o h ≡ nothing → PlanMadeInC file sheet o h 0 (handed_after file sheet o h)
+plan-exists : (file sheet : List ℕ) (o : Settings) (h : Handed) → refusal_of_plan file sheet o h ≡ None → PlanMadeInC file sheet o h 0 (handed_after file sheet o h)
 plan-exists file sheet o h e =
-    subst (λ (x : Settings). refusal_of_plan file sheet x h ≡ nothing → PlanMadeInC file sheet x h 0 (handed_after file sheet x h)) (said o)
+    subst (λ (x : Settings). refusal_of_plan file sheet x h ≡ None → PlanMadeInC file sheet x h 0 (handed_after file sheet x h)) (said o)
     (λ q.
     made (lifetimes 10) (share file) (share sheet) (word_of o) (lend_all h.buffers) (lend h.state) (lend h.summary)
     0 _ (sym (ap answer_of q), refl))

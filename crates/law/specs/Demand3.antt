@@ -1,6 +1,5 @@
 -- Demand 3, in full: one claim on whole lists of pulls.
-use Rattle.std.specs.Prelude.{◌≡◌, List, [], ℕ, ◌/◌, ◌≤◌, ◌<◌, length, get_or, take}
-use Rattle.std.proofs.Math.Option.{none}
+use Rattle.std.specs.Prelude.{◌≡◌, List, [], ℕ, ◌/◌, ◌≤◌, ◌<◌, length, get_or, take, Err, None, Ok, Option, Result}
 use Rattle.base.specs.Buffers.{flat}
 use Rattle.refusal.specs.declared.Refusal.{Refusal}
 use Rattle.refusal.specs.declared.Refusal.TheVariants.{ShortSlice}
@@ -8,11 +7,8 @@ use Rattle.voice.specs.Voice.{voice_of}
 use Rattle.sheet.specs.Sheet.{sheet_of}
 use Rattle.call.specs.declared.Settings.{Settings}
 use Rattle.call.specs.declared.Summary.{Summary}
-use Rattle.call.specs.declared.Called.TheVariants.{Spoken}
 use Rattle.call.specs.declared.Planned.{Planned}
 use Rattle.call.specs.Buffers.{Buffers, call_refusal, summary_of}
-use Rattle.call.specs.declared.Answer.{Answer}
-use Rattle.call.specs.declared.Answer.TheVariants.{Done, Refused}
 use Rattle.call.specs.Machine.{Shown, machine, written, samples_written, bytes_of_periods, given, SaysDone}
 use Rattle.c_plan.specs.Reports.{report_length}
 use Rattle.c_state.specs.State.{state_length}
@@ -24,8 +20,8 @@ use Rattle.law.specs.Made.{PlanMade, MadeAfter}
 use Rattle.law.specs.MadeInC.{PlanMadeInC, MadeInC}
 
 -- the answer of pull i of a list, counted from 0, and how many periods the pulls before it gave
-abbrev pub answer_at : List Shown → ℕ → Answer
-answer_at os i = (get_or os i (record { answer = Done; slice = [] })).answer
+abbrev pub answer_at : List Shown → ℕ → Result (Option ℕ) Refusal
+answer_at os i = (get_or os i (record { answer = Ok None; slice = [] })).answer
 
 abbrev pub given_before : List Shown → ℕ → ℕ
 given_before os i = given (take i os)
@@ -40,10 +36,10 @@ pub record WholeLists (c : SpokenCall) (ds : List (List ℕ)) (os : List Shown) 
   pub bytes : written os ≡ bytes_of_periods (take (given os) (periods_in c))
   pub within : given os ≤ length (periods_in c)
   -- 'and a pull says done exactly when all were given before it,'
-  pub done : (i : ℕ) → i < length ds → answer_at os i ≡ Done → given_before os i ≡ length (periods_in c)
-  pub done_then : (i : ℕ) → i < length ds → given_before os i ≡ length (periods_in c) → answer_at os i ≡ Done
+  pub done : (i : ℕ) → i < length ds → answer_at os i ≡ Ok None → given_before os i ≡ length (periods_in c)
+  pub done_then : (i : ℕ) → i < length ds → given_before os i ≡ length (periods_in c) → answer_at os i ≡ Ok None
   -- 'and is refused only with a slice shorter than the next period.'
-  pub refused : (i : ℕ) → i < length ds → (r : Refusal) → answer_at os i ≡ Refused r
+  pub refused : (i : ℕ) → i < length ds → (r : Refusal) → answer_at os i ≡ Err r
       → (r ≡ ShortSlice) × (length (get_or ds i []) / 2 < length (get_or (periods_in c) (given_before os i) []))
 
 -- `After c ds os` says that after the call c pulls that were lent the slices ds showed os; and there is something that they showed
@@ -69,13 +65,13 @@ pub record Demand3 : Type 0 where
   pub made_in_c : Claim MadeInC
   -- 'a call not refused': a call made is one just where it answers that it is spoken
   pub spoken : (file sheet : List ℕ) (o : Settings) (b after : Buffers) (r : Planned) (m : Summary) → PlanMade file sheet o b r after
-      → r.answer ≡ Spoken m → call_refusal file sheet o b ≡ none
+      → r.answer ≡ Ok m → call_refusal file sheet o b ≡ None
   pub spoken_then : (file sheet : List ℕ) (o : Settings) (b after : Buffers) (r : Planned) → PlanMade file sheet o b r after
-      → call_refusal file sheet o b ≡ none → r.answer ≡ Spoken (summary_of (voice_of file) (sheet_of sheet) o)
+      → call_refusal file sheet o b ≡ None → r.answer ≡ Ok (summary_of (voice_of file) (sheet_of sheet) o)
   -- the same of a call in C, which answers 0; its state and its summary must have room too
   pub spoken_in_c : (file sheet : List ℕ) (o : Settings) (h after : Handed) → PlanMadeInC file sheet o h 0 after
-      → call_refusal file sheet o h.buffers ≡ none
+      → call_refusal file sheet o h.buffers ≡ None
   pub spoken_in_c_then : (file sheet : List ℕ) (o : Settings) (h : Handed) (r : ℕ) (after : Handed) → PlanMadeInC file sheet o h r after
-      → call_refusal file sheet o h.buffers ≡ none → state_length ≤ length h.state → report_length ≤ length h.summary → r ≡ 0
+      → call_refusal file sheet o h.buffers ≡ None → state_length ≤ length h.state → report_length ≤ length h.summary → r ≡ 0
   -- two calls of which the second is longer
   pub two_calls : TwoCalls

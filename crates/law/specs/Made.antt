@@ -1,11 +1,10 @@
 -- Calls and pulls that were made: each is known by the contract of `diphone::plan` or `diphone::pull` alone.
-use Rattle.std.specs.Prelude.{◌≡◌, List, [], ◌∷◌, ℕ}
+use Rattle.std.specs.Prelude.{◌≡◌, List, [], ◌∷◌, ℕ, Ok}
 use contract.Lifetimes.{Lfts}
 use denote.Ref.{Bor, MutBor, at_last}
 use Rattle.lpc.specs.declared.FilterState.{FilterState}
 use Rattle.call.specs.declared.Settings.{Settings}
 use Rattle.call.specs.declared.Summary.{Summary}
-use Rattle.call.specs.declared.Called.TheVariants.{Spoken}
 use Rattle.call.specs.declared.Planned.{Planned}
 use Rattle.call.specs.declared.Pulled.{Pulled}
 use Rattle.call.specs.Buffers.{Buffers, lent}
@@ -73,5 +72,5 @@ pub record MadeAfter (c : SpokenCall) (ds : List (List ℕ)) (os : List Shown) :
   pub left : Buffers
   pub summary : Summary
   pub call : PlanMade c.voice_file c.sheet_file c.settings c.lent returned left
-  pub spoken : returned.answer ≡ Spoken summary
+  pub spoken : returned.answer ≡ Ok summary
   pub pulls : PullsMade (lent_by summary left) returned.state ds os

@@ -1,13 +1,12 @@
 -- Calls and pulls that a program in C made: each is known by the contract of `diphone_plan` or `diphone_pull` alone.
-use Rattle.std.specs.Prelude.{◌≡◌, List, [], ◌∷◌, ℕ, ◌*◌, eqb, ℤ, pos, negsuc, take}
+use Rattle.std.specs.Prelude.{◌≡◌, List, [], ◌∷◌, ℕ, ◌*◌, eqb, ℤ, pos, negsuc, take, Err, None, Ok, Option, Result, Some}
+use Rattle.refusal.specs.declared.Refusal.{Refusal}
 use contract.Lifetimes.{Lfts}
 use denote.Ref.{Bor, MutBor, at_last}
 use Rattle.base.specs.Choice.{pick}
 use Rattle.base.specs.Bytes.{little_endian}
 use Rattle.refusal.specs.declared.Refusal.TheVariants.{ShortSlice, BadState}
 use Rattle.call.specs.declared.Settings.{Settings}
-use Rattle.call.specs.declared.Answer.{Answer}
-use Rattle.call.specs.declared.Answer.TheVariants.{Given, Done, Refused}
 use Rattle.call.specs.Buffers.{Buffers}
 use Rattle.call.specs.Machine.{Shown}
 use Rattle.call.specs.Numbers.{settings_of}
@@ -28,9 +27,9 @@ pub data PlanMadeInC : List ℕ → List ℕ → Settings → Handed → ℕ →
       (record { buffers = bytes_in l; state = state.now; summary = summary.now }) r after
 
 -- The answer that a pull's number says: the samples given, -1 for done, -14, or else 15.
-abbrev pub answer_read : ℤ → Answer
-answer_read (pos n) = Given n
-answer_read (negsuc k) = pick (eqb k 0) Done (pick (eqb k 13) (Refused ShortSlice) (Refused BadState))
+abbrev pub answer_read : ℤ → Result (Option ℕ) Refusal
+answer_read (pos n) = Ok (Some n)
+answer_read (negsuc k) = pick (eqb k 0) (Ok None) (pick (eqb k 13) (Err ShortSlice) (Err BadState))
 
 -- Calls of `diphone_pull` one after the other, all lent the bytes b, and each a slice: the first gets a state's bytes, each other these
 -- bytes as the last one left them. What a call answered, r, and what it left of the state, kept, and in its slice, left, is known by what

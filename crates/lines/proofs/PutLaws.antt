@@ -1,11 +1,20 @@
 -- Texts put one after the other.
 use mathlib.Core.Path.{◌≡◌, refl, ap, sym, ◌∙◌}
-use mathlib.Core.List.{List, [], ◌∷◌, ◌++◌}
-use Prim.Native.Nat.{ℕ, ◌+◌, ◌*◌, ◌≤◌, ◌<◌}
+use mathlib.Core.List.{List, [], ◌++◌}
+use Prim.Native.Nat.{ℕ, ◌+◌, ◌-◌, ◌*◌, ◌^◌, ◌≤◌, ◌<◌}
 use native.Mathlib.Nat.{zero-add, mul-add}
 use native.Mathlib.Omega.{arith}
 use lib.ListN.{length, take, length-append}
-use lib.Seq.{sets, length-sets}
+use lib.Seq.{length-sets}
+use mathlib.Core.Bool.{true, false}
+use lib.IntN.{ℤ, pos, nat_abs}
+use lib.Signed.{lt_z}
+use mir.Syntax.{w16}
+use mir.Val.{of_z, to_z}
+use mir.Facts.{to_z_pos}
+use borrow.Author.Tests.{le-ltb}
+use Rattle.std.proofs.lemmas.Int.{ints}
+use Rattle.base.proofs.CaseLaws.{by_order}
 use Rattle.base.specs.Buffers.{over, flat, upto}
 use Rattle.base.proofs.BufferLaws.{take-over, sets-append, sets_over, upto-more, flat-snoc}
 use Rattle.lines.specs.Lines.{Puts}
@@ -61,3 +70,14 @@ module _ {A : Type 0} (text : A → List ℕ) (w : ℕ) (f : ℕ → A) (n : ℕ
   end_of i t h =
       let q : i ≡ n = omega (arith, t.most, h) in
       (rw q at t.puts, rw q at t.near)
+
+-- ---- a sample's word, as a signed number
+
+module _ (w : ℕ) (z : ℤ) (fits : w < 2 ^ 16) (is : to_z w16 (of_z w16 z) ≡ to_z w16 w) where
+  pub word_high : lt_z (to_z w16 (of_z w16 z)) (pos 0) ≡ true → (32768 ≤ w) × (nat_abs (to_z w16 (of_z w16 z)) ≡ 65536 - w)
+  word_high e = by_order w 32768
+      (λ l. absurd (omega (arith, ints, rw (is, to_z_pos w16 l) at e)))
+      (λ l. (l, rw (is, le-ltb w 32768 l) (omega arith)))
+
+  pub word_low : lt_z (to_z w16 (of_z w16 z)) (pos 0) ≡ false → w < 32768
+  word_low e = by_order w 32768 (λ l. l) (λ l. absurd (omega (arith, ints, rw (is, le-ltb w 32768 l) at e)))

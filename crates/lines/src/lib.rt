@@ -22,9 +22,10 @@ fn put_digit(n: u32, unit: u32, out: &mut [u8], at: usize) -> usize
     ensures upper_bound { result ≤ at + 1 }
 {
     if n < unit {
-        return at;
+        at
+    } else {
+        put_byte((n / unit % 10) as u8 + b'0', out, at)
     }
-    put_byte((n / unit % 10 + 48) as u8, out, at)
 }
 
 // A number in decimal.
@@ -37,7 +38,7 @@ fn put_number(n: u32, out: &mut [u8], at: usize) -> usize
     let b = put_digit(n, 1000, out, a);
     let c = put_digit(n, 100, out, b);
     let d = put_digit(n, 10, out, c);
-    put_byte((n % 10 + 48) as u8, out, d)
+    put_byte((n % 10) as u8 + b'0', out, d)
 }
 
 // A blank and a number.
@@ -56,11 +57,13 @@ fn put_sample(word: u16, out: &mut [u8], at: usize) -> usize
     ensures puts { lines.Puts out.old at (lines.sample word) out.new result }
     ensures upper_bound { result ≤ at + 6 }
 {
-    if word < 32768 {
-        return put_number(word as u32, out, at);
+    let sample = word.cast_signed();
+    if sample < 0 {
+        let next = put_byte(b'-', out, at);
+        put_number(u32::from(sample.unsigned_abs()), out, next)
+    } else {
+        put_number(u32::from(word), out, at)
     }
-    let next = put_byte(b'-', out, at);
-    put_number(65536 - (word as u32), out, next)
 }
 
 // A blank and a sample.
@@ -80,10 +83,8 @@ fn put_samples(samples: &[u8], out: &mut [u8], at: usize) -> usize
     ensures upper_bound { result ≤ at + 7 * (length samples.now / 2) }
 {
     let mut end = at;
-    let mut i = 0;
-    while i < samples.len() / 2 {
+    for i in 0..samples.len() / 2 {
         end = put_next(base::bytes::u16_at(samples, i), out, end);
-        i += 1;
     }
     end
 }

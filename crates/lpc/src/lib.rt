@@ -34,13 +34,13 @@ impl FilterState {
         ensures { result ≡ fresh_state filter order coeff_min coeff_range }
     {
         FilterState {
-            filter: filter,
-            order: order,
+            filter,
+            order,
             ring_place: order,
             period: 0,
             sample_place: 0,
-            coeff_min: coeff_min,
-            coeff_range: coeff_range,
+            coeff_min,
+            coeff_range,
             fixed: [0; 33],
             float: [0.0; 33],
         }

@@ -1,15 +1,14 @@
 -- A row value in 64 bits: no step of it overflows, whatever the scales are.
-use Rattle.std.proofs.Common.{◌≡◌, ℕ, zero, suc, ◌+◌, ◌*◌, ◌/◌, ◌%◌, ◌^◌, ◌<◌, ◌≤◌, T, leb, ℤ, pos, negsuc, ◌+ℤ◌, ◌*ℤ◌, neg_ℤ, nat_abs, sym, refl, ap, le_trans, mul-le-mul_left, arith, to_z-of_z, w16, w32, w64, Fits, SFits, to_z, of_z, le-ltb, lt-ltb}
+use Rattle.std.proofs.Common.{◌≡◌, ℕ, zero, suc, ◌+◌, ◌*◌, ◌/◌, ◌%◌, ◌^◌, ◌<◌, ◌≤◌, T, leb, ℤ, pos, negsuc, ◌+ℤ◌, ◌*ℤ◌, neg_ℤ, nat_abs, sym, refl, ap, ◌∙◌, le_trans, mul-le-mul_left, arith, to_z-of_z, w16, w32, w64, Fits, SFits, to_z, of_z, le-ltb, lt-ltb}
 use lib.IntN.{sub_ℕ}
 use lib.Signed.{quot_z, nat_abs-le}
-use lib.Ieee.{Float, binary32, mul, of_int, to_signed}
 use mir.Syntax.{Width}
 use mir.Val.{hbits}
 use mir.Facts.{to_z_pos, sfits_widen}
 use Rattle.base.specs.Words.{low}
 use Rattle.base.proofs.CaseLaws.{by_order}
 use Rattle.base.proofs.WordLaws.{quot_fits, low-mul}
-use Rattle.lpc.specs.Fixed.{scaled_by, row_value}
+use Rattle.lpc.specs.Fixed.{row_value}
 
 -- ---- magnitudes
 
@@ -37,6 +36,12 @@ nat_abs-sum (negsuc a) (negsuc b) = omega arith
 small-fits : (z : ℤ) → nat_abs z < 2 ^ 63 → SFits w64 z
 small-fits (pos n) h = record { sfits = h }
 small-fits (negsuc n) h = record { sfits = omega arith }
+
+-- the low 32 bits of an i64
+low-word : (z : ℤ) → SFits w64 z → of_z w64 z % 2 ^ 32 ≡ low 32 z
+unfolding low
+low-word (pos n) h = refl
+low-word (negsuc n) h = omega (arith, h.sfits)
 
 -- ---- the steps, as the code takes them
 
@@ -89,20 +94,12 @@ module _ (q : ℕ) (m r : ℤ) (hq : Fits w16 q) (hm : SFits w32 m) (hr : SFits 
   value-fits : SFits w64 (quot_z (kept sum) (pos 2))
   value-fits = rw (to_z-of_z sum_fits) (quot_fits w64 sum 2 sum_fits)
 
-  pub value-is : kept (quot_z (kept sum) (pos 2)) ≡ row_value m r q
+  value-is : quot_z (kept sum) (pos 2) ≡ row_value m r q
   unfolding row_value
-  value-is = rw (to_z-of_z value-fits, to_z-of_z sum_fits, sum_is)
+  value-is = rw (to_z-of_z sum_fits, sum_is)
 
--- the scales
-pub scaled : (n : ℕ) (x s : Float) → of_int binary32 (pos n) ≡ s → to_signed 31 (mul binary32 x s) ≡ scaled_by n x
-unfolding scaled_by
-scaled n x s e = ap (λ (t : Float). to_signed 31 (mul binary32 x t)) (sym e)
-
--- the low 32 of the low 64 bits
-pub low-low : (z : ℤ) → low 64 z % 2 ^ 32 ≡ low 32 z
-unfolding low
-low-low (pos n) = omega arith
-low-low (negsuc n) = omega arith
+  pub value-word : of_z w64 (kept (quot_z (kept sum) (pos 2))) % 2 ^ 32 ≡ low 32 (row_value m r q)
+  value-word = rw (to_z-of_z value-fits) (low-word _ value-fits ∙ ap (low 32) value-is)
 
 -- a sample, scaled
 pub started : (s : ℤ) → (low 32 s * 16384) % 2 ^ 32 ≡ low 32 (s *ℤ pos 16384)

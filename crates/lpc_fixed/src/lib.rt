@@ -15,20 +15,13 @@ ghost use Rattle.lpc_fixed.specs.Window.{Doubled};
 
 use lpc::{FilterState, ResynthType};
 
-// The word of an i64.
-fn i64_to_word(x: i64) -> u64
-    ensures { result ≡ low 64 x }
-{
-    if x < 0 { !((!x) as u64) } else { x as u64 }
-}
-
 // The row value of q, as a word. In i64 no scale overflows.
 fn row_value(min_q: i32, range_q: i32, q: u16) -> u32
     ensures { result ≡ low 32 (row_value min_q range_q q) }
 {
     let half = (q / 2) as i64;
     let value = (half * (range_q as i64) / 2048 + (min_q as i64)) / 2;
-    base::words::low32(i64_to_word(value))
+    base::words::low32(value.cast_unsigned())
 }
 
 // The accumulator `start` with the `order` products added: value k times the output k + 1 back, which
@@ -50,30 +43,17 @@ fn sum(
         return start;
     }
     let mut acc = start;
-    let mut at = place + 1;
-    let mut k = order - 1;
-    while 0 < k {
-        let product = base::words::wrapping_mul(values[k], window[at]);
-        acc = std::num::wrapping_add_u32(acc, product);
-        at += 1;
-        k -= 1;
+    for k in (1..order).rev() {
+        acc = acc.wrapping_add(values[k].wrapping_mul(window[place + order - k]));
     }
-    let product = base::words::wrapping_mul(values[0], last);
-    std::num::wrapping_add_u32(acc, product)
+    acc.wrapping_add(values[0].wrapping_mul(last))
 }
 
-// coeff_min, scaled.
-fn min_q(coeff_min: f32) -> i32
-    ensures { result ≡ scaled_by 32768 coeff_min }
+// A coefficient, scaled.
+fn scaled(coeff: f32, by: u16) -> i32
+    ensures { result ≡ scaled_by by coeff }
 {
-    float::f32_to_i32(coeff_min * 32768.0)
-}
-
-// coeff_range, scaled.
-fn range_q(coeff_range: f32) -> i32
-    ensures { result ≡ scaled_by 2048 coeff_range }
-{
-    float::f32_to_i32(coeff_range * 2048.0)
+    float::f32_to_i32(coeff * f32::from(by))
 }
 
 // The values of a row, as words; zeros after them.
@@ -83,11 +63,8 @@ fn row_values(min_q: i32, range_q: i32, row: &[u8]) -> [u32; 32]
         (replicate 32 0) }
 {
     let mut values = [0u32; 32];
-    let mut k = 0usize;
-    while k < row.len() / 2 {
-        let q = base::bytes::u16_at(row, k);
-        values[k] = row_value(min_q, range_q, q);
-        k += 1;
+    for k in 0..row.len() / 2 {
+        values[k] = row_value(min_q, range_q, base::bytes::u16_at(row, k));
     }
     values
 }
@@ -109,7 +86,7 @@ fn next(
         (upto (λ k. slice_index values.now k) order) (λ k. slice_index window.now (place + order - k)) 0) }
 {
     let sample = base::words::i32_to_word(ulaw::ulaw_to_i16(byte) as i32);
-    let start = base::words::wrapping_mul(sample, LPC_SCALE);
+    let start = sample.wrapping_mul(LPC_SCALE);
     base::words::divide_by_16384(sum(start, last, values, window, order, place))
 }
 
@@ -119,12 +96,8 @@ fn doubled(history: &[u32; 33], order: usize) -> [u32; 66]
     ensures { Doubled order (order + 1) history.now result × (length result ≡ 66) }
 {
     let mut window = [0u32; 66];
-    let mut i = 0usize;
-    while i <= order {
-        window[i] = history[i];
-        window[i + order + 1] = history[i];
-        i += 1;
-    }
+    window[..order + 1].copy_from_slice(&history[..order + 1]);
+    window[order + 1..2 * order + 2].copy_from_slice(&history[..order + 1]);
     window
 }
 
@@ -141,26 +114,27 @@ pub fn resynthesise_period(
         (spoken state (part_of row.now excitation.now))) samples.old }
 {
     let order = state.order;
-    let values = row_values(min_q(state.coeff_min), range_q(state.coeff_range), row);
+    let min_q = scaled(state.coeff_min, 32768);
+    let range_q = scaled(state.coeff_range, 2048);
+    let values = row_values(min_q, range_q, row);
     let mut history = state.fixed;
     let mut window = doubled(&history, order);
     let mut place = state.ring_place;
     let mut last = window[place + order];
-    let mut i = 0usize;
-    while i < excitation.len() {
-        let y = next(excitation[i], last, &values, &window, order, place);
+    for (i, byte) in excitation.iter().enumerate() {
+        let y = next(*byte, last, &values, &window, order, place);
         base::bytes::put_u16(samples, i, base::words::low16(y));
         history[place] = y;
         window[place] = y;
         window[place + order + 1] = y;
         last = y;
         place = lpc::place_after(order, place);
-        i += 1;
     }
-    let mut after = state;
-    after.ring_place = place;
-    after.period = state.period + 1;
-    after.sample_place = state.sample_place + excitation.len();
-    after.fixed = history;
-    after
+    FilterState {
+        ring_place: place,
+        period: state.period + 1,
+        sample_place: state.sample_place + excitation.len(),
+        fixed: history,
+        ..state
+    }
 }

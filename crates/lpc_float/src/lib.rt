@@ -46,11 +46,9 @@ fn sum(
     }
     let mut acc = start + values[0] * last;
     let mut at = lpc::place_before(order, newest);
-    let mut k = 1usize;
-    while k < order {
-        acc = acc + values[k] * history[at];
+    for k in 1..order {
+        acc += values[k] * history[at];
         at = lpc::place_before(order, at);
-        k += 1;
     }
     acc
 }
@@ -62,11 +60,8 @@ fn row_values(coeff_min: f32, coeff_range: f32, row: &[u8]) -> [f32; 32]
         (length row.now / 2)) (replicate 32 zero32) }
 {
     let mut values = [0.0f32; 32];
-    let mut k = 0usize;
-    while k < row.len() / 2 {
-        let q = base::bytes::u16_at(row, k);
-        values[k] = row_value(coeff_min, coeff_range, q);
-        k += 1;
+    for k in 0..row.len() / 2 {
+        values[k] = row_value(coeff_min, coeff_range, base::bytes::u16_at(row, k));
     }
     values
 }
@@ -101,15 +96,14 @@ fn sample(y: f32) -> u16
 {
     let pattern = float::f32_to_word(y);
     let exponent = pattern % 2147483648 / 8388608;
-    if 87 <= exponent {
-        if exponent < 142 {
-            let digits = (8388608 + pattern % 8388608) as u64;
-            let whole = (digits >> (150 - exponent)) as u32;
-            let negative = pattern / 2147483648;
-            return base::words::low16(whole + negative * (65536 - 2 * whole));
-        }
+    if 87 <= exponent && exponent < 142 {
+        let digits = (8388608 + pattern % 8388608) as u64;
+        let whole = (digits >> (150 - exponent)) as u32;
+        let negative = pattern / 2147483648;
+        base::words::low16(whole + negative * (65536 - 2 * whole))
+    } else {
+        float::f32_to_i16(y).cast_unsigned()
     }
-    base::words::i16_to_word(float::f32_to_i16(y))
 }
 
 // The next period by the float filter: its samples go to the front of `samples`.
@@ -129,19 +123,18 @@ pub fn resynthesise_period(
     let mut history = state.float;
     let mut place = state.ring_place;
     let mut last = history[lpc::place_before(order, place)];
-    let mut i = 0usize;
-    while i < excitation.len() {
-        let y = next(excitation[i], last, &values, &history, order, place);
+    for (i, byte) in excitation.iter().enumerate() {
+        let y = next(*byte, last, &values, &history, order, place);
         base::bytes::put_u16(samples, i, sample(y));
         history[place] = y;
         last = y;
         place = lpc::place_after(order, place);
-        i += 1;
     }
-    let mut after = state;
-    after.ring_place = place;
-    after.period = state.period + 1;
-    after.sample_place = state.sample_place + excitation.len();
-    after.float = history;
-    after
+    FilterState {
+        ring_place: place,
+        period: state.period + 1,
+        sample_place: state.sample_place + excitation.len(),
+        float: history,
+        ..state
+    }
 }

@@ -22,8 +22,7 @@ pub fn resynthesise_period(
     ensures samples_after { samples.new ≡ over (flat (bytes_of 2)
         (spoken state (part_of row.now excitation.now))) samples.old }
 {
-    let filter = state.filter;
-    match filter {
+    match state.filter {
         ResynthType::Fixed => lpc_fixed::resynthesise_period(state, row, excitation, samples),
         ResynthType::Float => lpc_float::resynthesise_period(state, row, excitation, samples),
     }

@@ -1,6 +1,6 @@
 -- The marks of the simple join, unit by unit: what a loop over the units goes by.
+use Rattle.std.specs.Prelude.{Err, None, Ok, Option, Result, Some}
 use Rattle.std.proofs.Common.{◌≡◌, ℕ, zero, suc, ◌+◌, ◌-◌, ◌*◌, ◌≤◌, Bool, true, false, leb, List, [], ◌∷◌, ◌++◌, length, sym, refl, ap, ◌∙◌, subst, arith, length-append}
-use mathlib.Core.Option.{Option, none, some}
 use lib.Seq.{sets, length-sets}
 use Rattle.base.specs.Choice.{pick}
 use Rattle.base.specs.Lists.{or_next}
@@ -15,8 +15,6 @@ use Rattle.voice.specs.Voice.{Voice}
 use Rattle.voice.specs.Periods.{samples_of, samples_from}
 use Rattle.units.specs.declared.Unit.{Unit}
 use Rattle.units.specs.Units.{limit}
-use Rattle.marks.specs.declared.UnitMarks.{UnitMarks}
-use Rattle.marks.specs.declared.UnitMarks.TheVariants as unit
 use Rattle.marks.specs.PitchMarks.{most_marks}
 use Rattle.marks.specs.NaturalMarks.{period_count, marks_of_periods, place_after_unit, natural_marks, mark_refusal}
 use Rattle.marks.specs.Checking.{unit_answered, unit_marks}
@@ -35,22 +33,22 @@ refusal-append (suc n) (m ∷ a) b =
     rw e (by (leb m limit) (refusal-append n a b))
   where
     by : (t : Bool) → mark_refusal n (a ++ b) ≡ or_next (mark_refusal n a) (mark_refusal (n - length a) b)
-        → pick t (mark_refusal n (a ++ b)) (some PastLimit) ≡ or_next (pick t (mark_refusal n a) (some PastLimit)) (mark_refusal (n - length a) b)
+        → pick t (mark_refusal n (a ++ b)) (Some PastLimit) ≡ or_next (pick t (mark_refusal n a) (Some PastLimit)) (mark_refusal (n - length a) b)
     by true i = i
     by false i = refl
 
-none_both : (a b : Option Refusal) → or_next a b ≡ none → (a ≡ none) × (b ≡ none)
-none_both none b e = (refl, e)
-none_both (some r) b e = let z : ◌≡◌ {A = ℕ} 0 1 = cc in absurd (omega arith)
+none_both : (a b : Option Refusal) → or_next a b ≡ None → (a ≡ None) × (b ≡ None)
+none_both None b e = (refl, e)
+none_both (Some r) b e = let z : ◌≡◌ {A = ℕ} 0 1 = cc in absurd (omega arith)
 
 -- as many marks as are allowed
-refusal-count : (left : ℕ) (ms : List ℕ) → mark_refusal left ms ≡ none → length ms ≤ left
+refusal-count : (left : ℕ) (ms : List ℕ) → mark_refusal left ms ≡ None → length ms ≤ left
 unfolding mark_refusal
 refusal-count left [] e = omega arith
 refusal-count zero (m ∷ ms) e = let z : ◌≡◌ {A = ℕ} 0 1 = cc in absurd (omega arith)
 refusal-count (suc n) (m ∷ ms) e = by (leb m limit) e (refusal-count n ms)
   where
-    by : (t : Bool) → pick t (mark_refusal n ms) (some PastLimit) ≡ none → (mark_refusal n ms ≡ none → length ms ≤ n) → suc (length ms) ≤ suc n
+    by : (t : Bool) → pick t (mark_refusal n ms) (Some PastLimit) ≡ None → (mark_refusal n ms ≡ None → length ms ≤ n) → suc (length ms) ≤ suc n
     by true e i = let l = i e in omega arith
     by false e i = let z : ◌≡◌ {A = ℕ} 0 1 = cc in absurd (omega arith)
 
@@ -80,40 +78,41 @@ module _ (v : Voice) (place left : ℕ) (u : Unit) (us : List Unit) where
   natural-refusal : mark_refusal left (natural_marks v place (u ∷ us)) ≡ or_next (mark_refusal left (of_unit v place u)) (mark_refusal (left - period_count u) others)
   natural-refusal = let n = length-unit v place u in ap (mark_refusal left) (natural-unit v place u us) ∙ refusal-append left (of_unit v place u) others ∙ rw n
 
-  abbrev answer : UnitMarks
+  abbrev answer : Result (ℕ × ℕ) Refusal
   answer = unit_marks v place u.first_period (period_count u) left
 
   -- the refusal of a unit is that of all
-  pub natural-refused : (r : Refusal) → answer ≡ unit.Refused r → mark_refusal left (natural_marks v place (u ∷ us)) ≡ some r
+  pub natural-refused : (r : Refusal) → answer ≡ Err r → mark_refusal left (natural_marks v place (u ∷ us)) ≡ Some r
   unfolding unit_marks
   natural-refused r e = natural-refusal ∙ by (mark_refusal left (of_unit v place u)) e
     where
-      by : (o : Option Refusal) → unit_answered o (place_after_unit v place u) (left - period_count u) ≡ unit.Refused r → or_next o (mark_refusal (left - period_count u) others) ≡ some r
-      by none e = let z : ◌≡◌ {A = ℕ} 0 1 = cc in absurd (omega arith)
-      by (some c) e = cc
+      by : (o : Option Refusal) → unit_answered o (place_after_unit v place u) (left - period_count u) ≡ Err r → or_next o (mark_refusal (left - period_count u) others) ≡ Some r
+      by None e = let z : ◌≡◌ {A = ℕ} 0 1 = cc in absurd (omega arith)
+      by (Some c) e = cc
 
   -- after a unit that is not refused, the others decide
   pub record Passed (place₁ left₁ : ℕ) : Type 0 where
-    pub spoken : mark_refusal left (of_unit v place u) ≡ none
+    pub spoken : mark_refusal left (of_unit v place u) ≡ None
     pub next : place₁ ≡ place_after_unit v place u
     pub counted : left₁ + period_count u ≡ left
     pub rest : mark_refusal left (natural_marks v place (u ∷ us)) ≡ mark_refusal left₁ (natural_marks v place₁ us)
 
-  pub natural-passed : (place₁ left₁ : ℕ) → answer ≡ unit.To place₁ left₁ → Passed place₁ left₁
+  pub natural-passed : (place₁ left₁ : ℕ) → answer ≡ Ok (place₁, left₁) → Passed place₁ left₁
   unfolding unit_marks
   natural-passed place₁ left₁ e = by (mark_refusal left (of_unit v place u)) refl e
     where
-      by : (o : Option Refusal) → mark_refusal left (of_unit v place u) ≡ o → unit_answered o (place_after_unit v place u) (left - period_count u) ≡ unit.To place₁ left₁ → Passed place₁ left₁
-      by (some c) q e = let z : ◌≡◌ {A = ℕ} 0 1 = cc in absurd (omega arith)
-      by none q e =
-          let a : place_after_unit v place u ≡ place₁ = cc in
-          let b : left - period_count u ≡ left₁ = cc in
+      by : (o : Option Refusal) → mark_refusal left (of_unit v place u) ≡ o → unit_answered o (place_after_unit v place u) (left - period_count u) ≡ Ok (place₁, left₁) → Passed place₁ left₁
+      by (Some c) q e = let z : ◌≡◌ {A = ℕ} 0 1 = cc in absurd (omega arith)
+      by None q e =
+          let p : ◌≡◌ {A = ℕ × ℕ} (place_after_unit v place u, left - period_count u) (place₁, left₁) = cc in
+          let a : place_after_unit v place u ≡ place₁ = ap (λ (x : ℕ × ℕ). x.0) p in
+          let b : left - period_count u ≡ left₁ = ap (λ (x : ℕ × ℕ). x.1) p in
           let c = refusal-count left (of_unit v place u) q in
           let n = length-unit v place u in
           record { spoken = q; next = sym a; counted = omega arith; rest = natural-refusal ∙ rw (q, a, b) }
 
 -- no unit is left
-pub natural-none : (v : Voice) (place left : ℕ) → mark_refusal left (natural_marks v place []) ≡ none
+pub natural-none : (v : Voice) (place left : ℕ) → mark_refusal left (natural_marks v place []) ≡ None
 unfolding natural_marks mark_refusal
 natural-none v place left = refl
 
@@ -138,12 +137,12 @@ store-part d i n ms ns all l s =
 
 -- the units are still to store, the first of which begins at a place, from element i on
 pub record UnitsStoring (v : Voice) (place left : ℕ) (us : List Unit) (d : List ℕ) (i : ℕ) (all : List ℕ) : Type 0 where
-  pub spoken : mark_refusal left (natural_marks v place us) ≡ none
+  pub spoken : mark_refusal left (natural_marks v place us) ≡ None
   pub low : place ≤ limit
   pub stores : Stores d i (natural_marks v place us) all
 
 module _ (v : Voice) (place left : ℕ) (u : Unit) (us : List Unit) (d : List ℕ) (i : ℕ) (all : List ℕ) (k : UnitsStoring v place left (u ∷ us) d i all) where
-  both : (mark_refusal left (of_unit v place u) ≡ none) × (mark_refusal (left - period_count u) (natural_marks v (place_after_unit v place u) us) ≡ none)
+  both : (mark_refusal left (of_unit v place u) ≡ None) × (mark_refusal (left - period_count u) (natural_marks v (place_after_unit v place u) us) ≡ None)
   both = none_both _ _ (sym (natural-refusal v place left u us) ∙ k.spoken)
 
   parted : Stores d i (of_unit v place u ++ natural_marks v (place_after_unit v place u) us) all
@@ -162,7 +161,7 @@ module _ (v : Voice) (place left : ℕ) (u : Unit) (us : List Unit) (d : List �
   units-storing d₁ e = record { spoken = both.1; low = units-low; stores = rw e (store-part d i (period_count u) (of_unit v place u) _ all (length-unit v place u) parted) }
 
 -- before the first unit
-pub units-first : (v : Voice) (us : List Unit) (d : List ℕ) → mark_refusal most_marks (natural_marks v 0 us) ≡ none → 4 * length (natural_marks v 0 us) ≤ length d
+pub units-first : (v : Voice) (us : List Unit) (d : List ℕ) → mark_refusal most_marks (natural_marks v 0 us) ≡ None → 4 * length (natural_marks v 0 us) ≤ length d
     → UnitsStoring v 0 most_marks us d 0 (over (flat (bytes_of 4) (natural_marks v 0 us)) d)
 units-first v us d e h = record { spoken = e; low = omega arith; stores = store-all d (natural_marks v 0 us) h }
 

@@ -1,6 +1,6 @@
 -- No mark is above the limit where none was refused.
+use Rattle.std.specs.Prelude.{None, Option, Some}
 use Rattle.std.proofs.Common.{◌≡◌, ℕ, zero, suc, ◌≤◌, Bool, true, false, ◌&&◌, leb, List, [], ◌∷◌, pos, refl, arith, leb-true}
-use mathlib.Core.Option.{Option, none, some}
 use lib.Ieee.{Float, binary64, lt, ne, of_int}
 use Rattle.base.specs.Choice.{pick}
 use Rattle.base.proofs.BoundLaws.{Each, nil, cons, each_append}
@@ -17,13 +17,13 @@ Low m = m ≤ limit
 
 -- ---- the simple join
 
-pub refusal-low : (left : ℕ) (ms : List ℕ) → mark_refusal left ms ≡ none → Each Low ms
+pub refusal-low : (left : ℕ) (ms : List ℕ) → mark_refusal left ms ≡ None → Each Low ms
 unfolding mark_refusal
 refusal-low left [] e = nil
 refusal-low zero (m ∷ ms) e = let z : ◌≡◌ {A = ℕ} 0 1 = cc in absurd (omega arith)
 refusal-low (suc n) (m ∷ ms) e = by (leb m limit) refl e (refusal-low n ms)
   where
-    by : (t : Bool) → leb m limit ≡ t → pick t (mark_refusal n ms) (some PastLimit) ≡ none → (mark_refusal n ms ≡ none → Each Low ms) → Each Low (m ∷ ms)
+    by : (t : Bool) → leb m limit ≡ t → pick t (mark_refusal n ms) (Some PastLimit) ≡ None → (mark_refusal n ms ≡ None → Each Low ms) → Each Low (m ∷ ms)
     by true l e ih = cons (leb-true m limit l) (ih e)
     by false l e ih = let z : ◌≡◌ {A = ℕ} 0 1 = cc in absurd (omega arith)
 
@@ -50,8 +50,8 @@ target-low rate s position f0 =
     either-low (is_finite (slope_of s position f0)) _ _ nil (λ l. climb-low (contour_to rate s position f0) s.left s.time))
 
 then-low : (r : Option Refusal) (ms : List ℕ) (m : Made) → Each Low ms → Each Low m.marks → Each Low (then_marks r ms m).marks
-then-low none ms m a b = each_append Low ms m.marks a b
-then-low (some r) ms m a b = a
+then-low None ms m a b = each_append Low ms m.marks a b
+then-low (Some r) ms m a b = a
 
 from_low : (rate : Float) (s : Stage) (ts : List Target) → Each Low (marks_from rate s ts).marks
 unfolding marks_from

@@ -1,6 +1,6 @@
 -- The marks of a call head those of a longer one, and are those of a voice with the same periods.
+use Rattle.std.specs.Prelude.{None, Option, Some}
 use Rattle.std.proofs.Common.{◌≡◌, ℕ, zero, suc, ◌+◌, ◌≤◌, List, [], ◌∷◌, ◌++◌, refl, ap, arith}
-use mathlib.Core.Option.{Option, none, some}
 use lib.Ieee.{Float}
 use Rattle.base.specs.Lists.{Heads}
 use Rattle.base.proofs.ListLaws.{heads-nil, heads-after, heads-cons}
@@ -16,12 +16,12 @@ use Rattle.marks.specs.NaturalMarks.{period_count, marks_of_periods, place_after
 
 -- ---- the modified join: more targets
 
-then-heads : (r : Option Refusal) (ms : List ℕ) (m n : Made) → (then_marks r ms m).refusal ≡ none → (m.refusal ≡ none → Heads m.marks n.marks)
+then-heads : (r : Option Refusal) (ms : List ℕ) (m n : Made) → (then_marks r ms m).refusal ≡ None → (m.refusal ≡ None → Heads m.marks n.marks)
     → Heads (then_marks r ms m).marks (then_marks r ms n).marks
-then-heads none ms m n e h = heads-after ms (h e)
-then-heads (some r) ms m n e h = let z : ◌≡◌ {A = ℕ} 0 1 = cc in absurd (omega arith)
+then-heads None ms m n e h = heads-after ms (h e)
+then-heads (Some r) ms m n e h = let z : ◌≡◌ {A = ℕ} 0 1 = cc in absurd (omega arith)
 
-from-append : (rate : Float) (s : Stage) (ts us : List Target) → (marks_from rate s ts).refusal ≡ none → Heads (marks_from rate s ts).marks (marks_from rate s (ts ++ us)).marks
+from-append : (rate : Float) (s : Stage) (ts us : List Target) → (marks_from rate s ts).refusal ≡ None → Heads (marks_from rate s ts).marks (marks_from rate s (ts ++ us)).marks
 unfolding marks_from
 from-append rate s [] us e = heads-nil _
 from-append rate s (t ∷ ts) us e =
@@ -31,7 +31,7 @@ from-append rate s (t ∷ ts) us e =
     let s₁ = stage_after c position f0 in
     then-heads c.refusal c.marks (marks_from rate s₁ ts) (marks_from rate s₁ (ts ++ us)) e (from-append rate s₁ ts us)
 
-pub marks-append : (rate : ℕ) (ts us : List Target) → (pitch_marks rate ts).refusal ≡ none → Heads (pitch_marks rate ts).marks (pitch_marks rate (ts ++ us)).marks
+pub marks-append : (rate : ℕ) (ts us : List Target) → (pitch_marks rate ts).refusal ≡ None → Heads (pitch_marks rate ts).marks (pitch_marks rate (ts ++ us)).marks
 unfolding pitch_marks
 marks-append rate ts us e = from-append _ first_stage ts us e
 

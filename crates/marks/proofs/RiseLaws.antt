@@ -1,6 +1,6 @@
 -- Marks do not fall; the simple join's end where its units do.
+use Rattle.std.specs.Prelude.{None, Option, Some}
 use Rattle.std.proofs.Common.{◌≡◌, ℕ, zero, suc, ◌+◌, ◌^◌, ◌<◌, ◌≤◌, Bool, true, false, ◌&&◌, leb, List, [], ◌∷◌, ◌++◌, pos, sym, refl, ap, ◌∙◌, subst, zero-le, arith}
-use mathlib.Core.Option.{Option, none, some}
 use lib.Ieee.{Float, binary64, mul, lt, ne, fits, of_int, to_unsigned}
 use lib.Ieee.Back.{round_whole}
 use lib.Ieee.Exact.{HasValue}
@@ -95,22 +95,22 @@ module _ (rate : Float) (n : ℕ) (v : HasValue rate false n 1) (some-rate : 0 <
 
     climb-rises : (left : ℕ) (time : Float) → Time time → Risen time (climb c left time)
     unfolding climb
-    climb-rises zero time t = either time (goes_on c time) _ _ (stays time none 0 t) (λ g. stays time (some TooManyMarks) 0 t)
+    climb-rises zero time t = either time (goes_on c time) _ _ (stays time None 0 t) (λ g. stays time (Some TooManyMarks) 0 t)
     climb-rises (suc left) time t =
-        either time (goes_on c time) _ _ (stays time none (suc left) t) (λ g.
-        either time (leb (mark_at c (next_time c time)) limit) _ _ (stays time (some PastLimit) (suc left) t) (λ l.
+        either time (goes_on c time) _ _ (stays time None (suc left) t) (λ g.
+        either time (leb (mark_at c (next_time c time)) limit) _ _ (stays time (Some PastLimit) (suc left) t) (λ l.
         one_more time _ t g (climb-rises left (next_time c time) (onward time t g).0)))
 
   target-rises : (s : Stage) (position f0 : Float) → Time s.time → Risen s.time (climb_to rate s position f0)
   unfolding climb_to
   target-rises s position f0 t =
-      either s.time (ne s.time position && lt s.position position) _ _ (stays s.time none s.left t) (λ e.
-      either s.time (is_finite (slope_of s position f0)) _ _ (stays s.time (some BadSlope) s.left t) (λ f.
+      either s.time (ne s.time position && lt s.position position) _ _ (stays s.time None s.left t) (λ e.
+      either s.time (is_finite (slope_of s position f0)) _ _ (stays s.time (Some BadSlope) s.left t) (λ f.
       climb-rises (contour_to rate s position f0) refl s.left s.time t))
 
   then-rises : (m : ℕ) (r : Option Refusal) (ms : List ℕ) (rest : Made) → Rising m ms → Rising (last_of m ms) rest.marks → Rising m (then_marks r ms rest).marks
-  then-rises m none ms rest p q = rising-append m ms rest.marks p q
-  then-rises m (some r) ms rest p q = p
+  then-rises m None ms rest p q = rising-append m ms rest.marks p q
+  then-rises m (Some r) ms rest p q = p
 
   from-rises : (s : Stage) (ts : List Target) → Time s.time → Rising (mark_of rate s.time) (marks_from rate s ts).marks
   unfolding marks_from

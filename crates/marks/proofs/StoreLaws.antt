@@ -1,6 +1,6 @@
 -- The loops that store marks.
+use Rattle.std.specs.Prelude.{None, Some}
 use Rattle.std.proofs.Common.{◌≡◌, ℕ, suc, ◌+◌, ◌-◌, ◌*◌, ◌<◌, ◌≤◌, List, [], ◌∷◌, length, take, sym, refl, ap, ◌∙◌, subst, arith, length-take}
-use mathlib.Core.Option.{none, some}
 use lib.Seq.{sets, length-sets, take-nil}
 use Rattle.base.specs.Buffers.{flat, over}
 use Rattle.base.specs.Bytes.{bytes_of}
@@ -13,11 +13,8 @@ use Rattle.refusal.specs.declared.Refusal.{Refusal}
 use Rattle.sheet.specs.declared.Places.{Places}
 use Rattle.sheet.specs.Sheet.{sheet_of}
 use Rattle.marks.specs.declared.Walk.{Walk}
-use Rattle.marks.specs.declared.Step.{Step}
-use Rattle.marks.specs.declared.Event.{Event}
-use Rattle.marks.specs.declared.Event.TheVariants.{Mark, Refused, Done}
 use Rattle.marks.specs.PitchMarks.{Made, pitch_marks}
-use Rattle.marks.specs.Walking.{coming, Reads, fresh_walk, Steps, beginning}
+use Rattle.marks.specs.Walking.{coming, stops, Reads, fresh_walk, Steps}
 use Rattle.marks.specs.Checking.{CanStore, CanStoreUnit}
 use Rattle.marks.specs.NaturalMarks.{marks_of_periods}
 use Rattle.marks.proofs.WalkLaws.{fresh-coming}
@@ -54,7 +51,7 @@ store-all d ms h =
 
 -- those before number `count` are still to store
 pub record Storing (sheet : List ℕ) (count : ℕ) (w : Walk) (d : List ℕ) (i : ℕ) (all : List ℕ) : Type 0 where
-  pub spoken : (coming sheet w).refusal ≡ none
+  pub spoken : (coming sheet w).refusal ≡ None
   pub stores : Stores d i (take (count - i) (coming sheet w).marks) all
   pub ahead : Reads sheet w
 
@@ -63,35 +60,32 @@ storing-all sheet count w d i all k h =
     let z : count - i ≡ 0 = omega arith in
     store-none d i all (subst (λ (n : ℕ). Stores d i (take n (coming sheet w).marks) all) z k.stores)
 
-module _ (sheet : List ℕ) (count : ℕ) (w : Walk) (d : List ℕ) (i : ℕ) (all : List ℕ) (k : Storing sheet count w d i all) (s : Step) (t : Steps sheet w s) where
-  begins : (e : Event) → s.event ≡ e → coming sheet w ≡ beginning e (coming sheet s.walk)
-  begins e q = t.is ∙ ap (λ (x : Event). beginning x (coming sheet s.walk)) q
-
-  pub storing-refused : (r : Refusal) → s.event ≡ Refused r → ⊥
+module _ (sheet : List ℕ) (count : ℕ) (w : Walk) (d : List ℕ) (i : ℕ) (all : List ℕ) (k : Storing sheet count w d i all) where
+  pub storing-refused : (r : Refusal) → coming sheet w ≡ stops (Some r) → ⊥
   storing-refused r q =
-      let e : some r ≡ none = ap (λ (m : Made). m.refusal) (sym (begins (Refused r) q)) ∙ k.spoken in
+      let e : Some r ≡ None = ap (λ (m : Made). m.refusal) (sym q) ∙ k.spoken in
       let z : ◌≡◌ {A = ℕ} 0 1 = cc in
       omega arith
 
-  pub storing-done : s.event ≡ Done → d ≡ all
+  pub storing-done : coming sheet w ≡ stops None → d ≡ all
   storing-done q =
       store-none d i all
-      (subst (λ (ms : List ℕ). Stores d i ms all) (ap (λ (m : Made). take (count - i) m.marks) (begins Done q) ∙ take-nil (count - i)) k.stores)
+      (subst (λ (ms : List ℕ). Stores d i ms all) (ap (λ (m : Made). take (count - i) m.marks) q ∙ take-nil (count - i)) k.stores)
 
-  module _ (l : i < count) (m : ℕ) (q : s.event ≡ Mark m) where
-    to-store : Stores d i (m ∷ take (count - (i + 1)) (coming sheet s.walk).marks) all
+  module _ (l : i < count) (m : ℕ) (x : Walk) (t : Steps sheet w m x) where
+    to-store : Stores d i (m ∷ take (count - (i + 1)) (coming sheet x).marks) all
     to-store =
         let n : count - i ≡ suc (count - (i + 1)) = omega arith in
-        subst (λ (ms : List ℕ). Stores d i ms all) (ap (λ (k : ℕ). take k (coming sheet w).marks) n ∙ ap (λ (m : Made). take (suc (count - (i + 1))) m.marks) (begins (Mark m) q)) k.stores
+        subst (λ (ms : List ℕ). Stores d i ms all) (ap (λ (k : ℕ). take k (coming sheet w).marks) n ∙ ap (λ (m : Made). take (suc (count - (i + 1))) m.marks) t.is) k.stores
 
     pub storing-room : 4 * i + 4 ≤ length d
     storing-room = let r = to-store.room in omega arith
 
-    pub storing-mark : (d₁ : List ℕ) → d₁ ≡ sets d (4 * i) (bytes_of 4 m) → Storing sheet count s.walk d₁ (i + 1) all × (length d₁ ≡ length d)
+    pub storing-mark : (d₁ : List ℕ) → d₁ ≡ sets d (4 * i) (bytes_of 4 m) → Storing sheet count x d₁ (i + 1) all × (length d₁ ≡ length d)
     storing-mark d₁ e = (
       record {
-        spoken = ap (λ (m : Made). m.refusal) (sym (begins (Mark m) q)) ∙ k.spoken;
-        stores = subst (λ (l : List ℕ). Stores l (i + 1) (take (count - (i + 1)) (coming sheet s.walk).marks) all) (sym e) (store-one d i m _ all to-store);
+        spoken = ap (λ (m : Made). m.refusal) (sym t.is) ∙ k.spoken;
+        stores = subst (λ (l : List ℕ). Stores l (i + 1) (take (count - (i + 1)) (coming sheet x).marks) all) (sym e) (store-one d i m _ all to-store);
         ahead = t.ahead;
       },
       ap length e ∙ simp length-sets,

@@ -1,18 +1,17 @@
 -- The marks of one unit of the simple join, period by period.
+use Rattle.std.specs.Prelude.{Err, Ok, Some}
 use Rattle.std.proofs.Common.{◌≡◌, ℕ, zero, suc, ◌+◌, ◌-◌, ◌<◌, ◌≤◌, List, [], ◌∷◌, length, refl, ap, ◌∙◌, add-one, arith, le-leb}
-use mathlib.Core.Option.{some}
 use borrow.Author.Tests.{lt-leb}
 use Rattle.refusal.specs.declared.Refusal.TheVariants.{PastLimit, TooManyMarks}
 use Rattle.voice.specs.Voice.{Voice}
 use Rattle.voice.specs.Periods.{samples_of, samples_from}
 use Rattle.units.specs.Units.{limit}
-use Rattle.marks.specs.declared.UnitMarks.TheVariants as unit
 use Rattle.marks.specs.NaturalMarks.{marks_of_periods, mark_refusal}
 use Rattle.marks.specs.Checking.{unit_answered, unit_marks}
 
 -- ---- one mark
 
-refusal-past : (left m : ℕ) (ms : List ℕ) → 0 < left → limit < m → mark_refusal left (m ∷ ms) ≡ some PastLimit
+refusal-past : (left m : ℕ) (ms : List ℕ) → 0 < left → limit < m → mark_refusal left (m ∷ ms) ≡ Some PastLimit
 unfolding mark_refusal
 refusal-past zero m ms l g = absurd (omega arith)
 refusal-past (suc k) m ms l g = rw (lt-leb m limit g)
@@ -47,7 +46,7 @@ module _ (v : Voice) (place p : ℕ) where
   samples-more zero h = absurd (omega arith)
   samples-more (suc n) h = let e : suc n - 1 ≡ n = omega arith in rw (e, add-one) (omega arith)
 
-  pub unit-none : (n left : ℕ) → n ≡ 0 → unit_marks v place p n left ≡ unit.To place left
+  pub unit-none : (n left : ℕ) → n ≡ 0 → unit_marks v place p n left ≡ Ok (place, left)
   unfolding unit_marks mark_refusal
   unit-none n left e =
       let l : left - n ≡ left = omega arith in
@@ -60,11 +59,11 @@ module _ (v : Voice) (place p : ℕ) where
     unfolding unit_marks
     turn = let m = periods-more n h in let s = samples-more n h in rw (m, s)
 
-    pub unit-full : left ≡ 0 → unit_marks v place p n left ≡ unit.Refused TooManyMarks
+    pub unit-full : left ≡ 0 → unit_marks v place p n left ≡ Err TooManyMarks
     unfolding mark_refusal
     unit-full e = turn ∙ rw e
 
-    pub unit-past : 0 < left → limit < end → unit_marks v place p n left ≡ unit.Refused PastLimit
+    pub unit-past : 0 < left → limit < end → unit_marks v place p n left ≡ Err PastLimit
     unit-past l g = turn ∙ rw (refusal-past left end (marks_of_periods v end (p + 1) (n - 1)) l g)
 
     pub unit-more : 0 < left → end ≤ limit → unit_marks v place p n left ≡ unit_marks v end (p + 1) (n - 1) (left - 1)

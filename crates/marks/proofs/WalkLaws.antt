@@ -1,14 +1,14 @@
 -- What is still to come of the pitch marks, step by step.
-use Rattle.std.proofs.Common.{◌≡◌, ℕ, zero, suc, ◌+◌, ◌-◌, ◌<◌, ◌≤◌, Bool, true, false, ◌&&◌, ltb, leb, List, ◌∷◌, drop, pos, sym, refl, ap, ◌∙◌, subst, arith, ltb-false, ltb-true, leb-true}
-use mathlib.Core.Option.{Option, none, some}
+use Rattle.std.specs.Prelude.{Err, None, Ok, Option, Result, Some}
+use Rattle.std.proofs.Common.{◌≡◌, ℕ, zero, suc, ◌-◌, ◌<◌, ◌≤◌, Bool, true, false, ◌&&◌, ltb, leb, List, ◌∷◌, drop, pos, sym, refl, ap, ◌∙◌, subst, arith, ltb-false, ltb-true, leb-true}
 use lib.Ieee.{Float, fin}
 use Rattle.base.specs.Choice.{pick}
 use Rattle.base.proofs.ListLaws.{and_left, and_right}
+use Rattle.base.proofs.ResultLaws.{holding}
 use Rattle.refusal.specs.declared.Refusal.{Refusal}
 use Rattle.refusal.specs.declared.Refusal.TheVariants.{BadSlope, PastLimit, TooManyMarks}
 use Rattle.sheet.specs.declared.Target.{Target}
 use Rattle.sheet.specs.declared.Places.{Places}
-use Rattle.sheet.specs.declared.SheetAnswer.TheVariants.{Read}
 use Rattle.sheet.specs.Sheet.{Got, fails, gets, target, is_finite, sheet_of}
 use Rattle.sheet.specs.Answers.{reads, TargetSaid}
 use Rattle.sheet.specs.Places.{is_read, answer_in, sheet_places}
@@ -16,13 +16,8 @@ use Rattle.sheet.proofs.WalkLaws.{Ahead, ahead-some, ahead_none, ahead_step}
 use Rattle.sheet.proofs.ReadLaws.{sheet-ahead}
 use Rattle.units.specs.Units.{limit}
 use Rattle.marks.specs.declared.Walk.{Walk}
-use Rattle.marks.specs.declared.Aimed.{Aimed}
-use Rattle.marks.specs.declared.Aimed.TheVariants as aim
-use Rattle.marks.specs.declared.Event.{Event}
-use Rattle.marks.specs.declared.Event.TheVariants.{Mark, Refused}
-use Rattle.marks.specs.declared.Step.{Step}
 use Rattle.marks.specs.PitchMarks.{position_counted, f0_counted, Made, Contour, Climb, goes_on, next_time, mark_at, ends, with_mark, climb, slope_of, climb_to, stage_after, then_marks, marks_from, pitch_marks}
-use Rattle.marks.specs.Walking.{contour_of, stage_of, on_way, climb_of, coming_to, read_targets, targets_ahead, coming, stops, Reads, fresh_walk, moved, is_ahead, aimed, Advanced, later, marked, beginning, marks_in, Steps}
+use Rattle.marks.specs.Walking.{contour_of, stage_of, on_way, climb_of, coming_to, read_targets, targets_ahead, coming, stops, Reads, fresh_walk, moved, is_ahead, aimed, Advanced, later, marked, beginning, Steps, IsNext}
 
 -- ---- the targets ahead
 
@@ -41,7 +36,7 @@ ahead-is sheet w ts a = (ap (λ (g : Got (List Target)). coming_to w (read_targe
 pub target-there : (sheet : List ℕ) (w : Walk) → Reads sheet w → 0 < w.targets → is_read (target (drop w.at sheet)) ≡ true
 target-there sheet w h l = ahead-some target sheet w.targets w.at _ (λ e. omega arith) (read-ahead sheet w h)
 
-pub fresh-coming : (sheet : List ℕ) (p : Places) (rate : ℕ) (w : Walk) → answer_in (sheet_places sheet) ≡ Read p → w ≡ fresh_walk p rate
+pub fresh-coming : (sheet : List ℕ) (p : Places) (rate : ℕ) (w : Walk) → answer_in (sheet_places sheet) ≡ Ok p → w ≡ fresh_walk p rate
     → (coming sheet w ≡ pitch_marks rate (sheet_of sheet).targets) × Reads sheet w
 unfolding coming_to climb_of pitch_marks
 fresh-coming sheet p rate w e f =
@@ -50,16 +45,16 @@ fresh-coming sheet p rate w e f =
 
 -- ---- at a target
 
-climb-stop : (c : Contour) (n : ℕ) (time : Float) → goes_on c time ≡ false → climb c n time ≡ ends none time n
+climb-stop : (c : Contour) (n : ℕ) (time : Float) → goes_on c time ≡ false → climb c n time ≡ ends None time n
 unfolding climb
 climb-stop c zero time g = rw (g, climb)
 climb-stop c (suc n) time g = rw (g, climb)
 
-arrived : (w : Walk) → on_way w ≡ false → climb_of w ≡ ends none w.time w.left
+arrived : (w : Walk) → on_way w ≡ false → climb_of w ≡ ends None w.time w.left
 unfolding climb_of
 arrived w e = by w.climbs e
   where
-    by : (t : Bool) → (t && goes_on (contour_of w) w.time) ≡ false → pick t (climb (contour_of w) w.left w.time) (ends none w.time w.left) ≡ ends none w.time w.left
+    by : (t : Bool) → (t && goes_on (contour_of w) w.time) ≡ false → pick t (climb (contour_of w) w.left w.time) (ends None w.time w.left) ≡ ends None w.time w.left
     by true e = climb-stop (contour_of w) w.left w.time e
     by false e = refl
 
@@ -68,7 +63,7 @@ unfolding coming_to
 there w ts e = rw (arrived w e)
 
 -- no target is left
-pub coming-none : (sheet : List ℕ) (w : Walk) → Reads sheet w → on_way w ≡ false → w.targets ≡ 0 → coming sheet w ≡ stops none
+pub coming-none : (sheet : List ℕ) (w : Walk) → Reads sheet w → on_way w ≡ false → w.targets ≡ 0 → coming sheet w ≡ stops None
 unfolding marks_from
 coming-none sheet w h e z =
     let a = read-ahead sheet w h in
@@ -87,9 +82,9 @@ module _ (w : Walk) (position f0 : Float) (next : ℕ) where
     is : n ≡ moved w position f0 next climbs slope
     climb : climb_of (moved w position f0 next climbs slope) ≡ up
 
-  Aims : Aimed → Type 0
-  Aims (aim.To n) = Onward n
-  Aims (aim.Refused r) = up ≡ ends (some r) w.time w.left
+  Aims : Result Walk Refusal → Type 0
+  Aims (Ok n) = Onward n
+  Aims (Err r) = up ≡ ends (Some r) w.time w.left
 
   aims : Aims (aimed w position f0 next)
   unfolding Aims aimed climb_to climb_of
@@ -99,7 +94,7 @@ module _ (w : Walk) (position f0 : Float) (next : ℕ) where
       slope = slope_of (stage_of w) position f0
 
       by : (a b : Bool) → is_ahead w position ≡ a → is_finite slope ≡ b
-          → Aims (pick a (pick b (aim.To (moved w position f0 next true slope)) (aim.Refused BadSlope)) (aim.To (moved w position f0 next false (fin false 0 (pos 0)))))
+          → Aims (pick a (pick b (Ok (moved w position f0 next true slope)) (Err BadSlope)) (Ok (moved w position f0 next false (fin false 0 (pos 0)))))
       by true true e f = record { climbs = true; slope = slope; is = refl; climb = rw (e, climb_to, f) }
       by true false e f = rw (e, climb_to, f)
       by false b e f = record { climbs = false; slope = fin false 0 (pos 0); is = refl; climb = rw (e, climb_to) }
@@ -115,16 +110,16 @@ module _ (sheet : List ℕ) (w : Walk) (t : Target) (next : ℕ) where
   abbrev pitch : Float
   pitch = f0_counted w.f0 t.f0
 
-  on-to : (r : Aimed) (ts : List Target) → Aims w position pitch next r → 0 < w.targets → Ahead target sheet (w.targets - 1) next ts
+  on-to : (r : Result Walk Refusal) (ts : List Target) → Aims w position pitch next r → 0 < w.targets → Ahead target sheet (w.targets - 1) next ts
       → coming sheet w ≡ after w.rate position pitch ts (up w position pitch next) → Advanced sheet w r
   unfolding Aims coming_to
-  on-to (aim.To n) ts o l a e =
+  on-to (Ok n) ts o l a e =
       let m = moved w position pitch next o.climbs o.slope in
       let c = ahead-is sheet m ts a in
-      subst (λ (n : Walk). Advanced sheet w (aim.To n)) (sym o.is) (c.0 ∙ ap (after w.rate position pitch ts) o.climb ∙ sym e, c.1, refl, omega arith)
-  on-to (aim.Refused r) ts o l a e = e ∙ ap (after w.rate position pitch ts) o
+      subst (λ (n : Walk). Advanced sheet w (Ok n)) (sym o.is) (c.0 ∙ ap (after w.rate position pitch ts) o.climb ∙ sym e, c.1, refl, omega arith)
+  on-to (Err r) ts o l a e = e ∙ ap (after w.rate position pitch ts) o
 
-  pub advanced : (r : Aimed) → Reads sheet w → 0 < w.targets → on_way w ≡ false → TargetSaid sheet (reads t next) (target (drop w.at sheet))
+  pub advanced : (r : Result Walk Refusal) → Reads sheet w → 0 < w.targets → on_way w ≡ false → TargetSaid sheet (reads t next) (target (drop w.at sheet))
       → r ≡ aimed w position pitch next → Advanced sheet w r
   unfolding marks_from
   advanced r h l e i q =
@@ -139,12 +134,12 @@ module _ (c : Contour) (time : Float) (g : goes_on c time ≡ true) where
   abbrev mark : ℕ
   mark = mark_at c (next_time c time)
 
-  climb-full : (n : ℕ) → n ≤ 0 → climb c n time ≡ ends (some TooManyMarks) time n
+  climb-full : (n : ℕ) → n ≤ 0 → climb c n time ≡ ends (Some TooManyMarks) time n
   unfolding climb
   climb-full zero e = rw (g, climb)
   climb-full (suc n) e = absurd (omega arith)
 
-  climb-past : (n : ℕ) → 0 < n → leb mark limit ≡ false → climb c n time ≡ ends (some PastLimit) time n
+  climb-past : (n : ℕ) → 0 < n → leb mark limit ≡ false → climb c n time ≡ ends (Some PastLimit) time n
   unfolding climb
   climb-past zero e l = absurd (omega arith)
   climb-past (suc n) e l = rw (g, climb, l)
@@ -154,9 +149,9 @@ module _ (c : Contour) (time : Float) (g : goes_on c time ≡ true) where
   climb-more zero e l = absurd (omega arith)
   climb-more (suc n) e l = let d : suc n - 1 ≡ n = omega arith in rw (g, climb, l, d)
 
-then-mark : (r : Option Refusal) (m : ℕ) (ms : List ℕ) (rest : Made) → then_marks r (m ∷ ms) rest ≡ beginning (Mark m) (then_marks r ms rest)
-then-mark none m ms rest = refl
-then-mark (some r) m ms rest = refl
+then-mark : (r : Option Refusal) (m : ℕ) (ms : List ℕ) (rest : Made) → then_marks r (m ∷ ms) rest ≡ beginning m (then_marks r ms rest)
+then-mark None m ms rest = refl
+then-mark (Some r) m ms rest = refl
 
 module _ (sheet : List ℕ) (w : Walk) (h : Reads sheet w) where
   abbrev targets : List Target
@@ -173,7 +168,12 @@ module _ (sheet : List ℕ) (w : Walk) (h : Reads sheet w) where
   unfolding coming coming_to climb_of
   on-later t = rw t
 
-  marks-one : w.climbs ≡ true → goes_on (contour_of w) w.time ≡ true → Steps sheet w (marked w)
+  -- a mark that was made, or the refusal in its place
+  abbrev pub IsMarked : Result (ℕ × Walk) Refusal → Type 0
+  IsMarked (Ok s) = Steps sheet w s.0 s.1
+  IsMarked (Err r) = coming sheet w ≡ stops (Some r)
+
+  marks-one : w.climbs ≡ true → goes_on (contour_of w) w.time ≡ true → IsMarked (marked w)
   unfolding marked
   marks-one t g = by (ltb 0 w.left) (leb (mark_at (contour_of w) time) limit) refl refl
     where
@@ -181,32 +181,27 @@ module _ (sheet : List ℕ) (w : Walk) (h : Reads sheet w) where
       m = mark_at (contour_of w) time
 
       by : (a b : Bool) → ltb 0 w.left ≡ a → leb m limit ≡ b
-          → Steps sheet w (pick a (pick b (record { event = Mark m; walk = later w time }) (record { event = Refused PastLimit; walk = w })) (record { event = Refused TooManyMarks; walk = w }))
+          → IsMarked (pick a (pick b (Ok (m, later w time)) (Err PastLimit)) (Err TooManyMarks))
       by true true e f =
           let l = ltb-true 0 w.left e in
           let c = climb (contour_of w) (w.left - 1) time in
           record {
-            is = on-way _ t (climb-more (contour_of w) w.time g w.left l f) ∙ then-mark c.refusal m c.marks _ ∙ ap (beginning (Mark m)) (sym (on-later t));
+            is = on-way _ t (climb-more (contour_of w) w.time g w.left l f) ∙ then-mark c.refusal m c.marks _ ∙ ap (beginning m) (sym (on-later t));
             ahead = h;
             counted = omega arith;
             low = leb-true m limit f;
           }
-      by true false e f =
-          record { is = on-way _ t (climb-past (contour_of w) w.time g w.left (ltb-true 0 w.left e) f); ahead = h; counted = omega arith; low = omega arith }
-      by false b e f =
-          record { is = on-way _ t (climb-full (contour_of w) w.time g w.left (ltb-false 0 w.left e)); ahead = h; counted = omega arith; low = omega arith }
+      by true false e f = on-way _ t (climb-past (contour_of w) w.time g w.left (ltb-true 0 w.left e) f)
+      by false b e f = on-way _ t (climb-full (contour_of w) w.time g w.left (ltb-false 0 w.left e))
 
-  pub marked-steps : on_way w ≡ true → Steps sheet w (marked w)
+  pub marked-steps : on_way w ≡ true → IsMarked (marked w)
   marked-steps o = marks-one (and_left w.climbs (goes_on (contour_of w) w.time) o) (and_right w.climbs (goes_on (contour_of w) w.time) o)
 
 -- the same step from a walk with the same to come
-pub same-steps : (sheet : List ℕ) (w n : Walk) (s : Step) → coming sheet n ≡ coming sheet w → n.left ≡ w.left → Steps sheet n s → Steps sheet w s
-same-steps sheet w n s e l i = record { is = sym e ∙ i.is; ahead = i.ahead; counted = i.counted ∙ l; low = i.low }
+pub same-steps : (sheet : List ℕ) (w n : Walk) (m : ℕ) (x : Walk) → coming sheet n ≡ coming sheet w → n.left ≡ w.left → Steps sheet n m x → Steps sheet w m x
+same-steps sheet w n m x e l i = record { is = sym e ∙ i.is; ahead = i.ahead; counted = i.counted ∙ l; low = i.low }
 
--- a step that makes a mark
-module _ (sheet : List ℕ) (w : Walk) (s : Step) (i : Steps sheet w s) (m : ℕ) (q : s.event ≡ Mark m) where
-  pub step_left : s.walk.left + 1 ≡ w.left
-  step_left = ap (λ (e : Event). s.walk.left + marks_in e) (sym q) ∙ i.counted
-
-  pub step-low : m ≤ limit
-  step-low = let b = i.low in rw q at b
+-- the next of what is still to come, by what it holds
+pub came : {sheet : List ℕ} {w : Walk} {r : Result (Option (ℕ × Walk)) Refusal} {o : Option (ℕ × Walk)} {m : ℕ} {n : Walk}
+    → IsNext sheet w r → r ≡ Ok o → o ≡ Some (m, n) → Steps sheet w m n
+came {sheet = sheet} {w = w} i e f = subst (IsNext sheet w) (holding e f) i

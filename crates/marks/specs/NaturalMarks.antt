@@ -1,6 +1,5 @@
 -- Document 01: 'The simple join sums period samples and ignores ends and targets, so only its marks can give 11.'
-use Rattle.std.specs.Prelude.{ℕ, zero, suc, ◌+◌, ◌-◌, List, [], ◌∷◌, ◌++◌, nat_le}
-use Rattle.std.proofs.Math.Option.{Option, none, some}
+use Rattle.std.specs.Prelude.{ℕ, zero, suc, ◌+◌, ◌-◌, List, [], ◌∷◌, ◌++◌, nat_le, None, Option, Some}
 use Rattle.base.specs.Choice.{pick}
 use Rattle.refusal.specs.declared.Refusal.{Refusal}
 use Rattle.refusal.specs.declared.Refusal.TheVariants.{PastLimit, TooManyMarks}
@@ -33,6 +32,6 @@ natural_units v place (u ∷ us) = ending_at u (place_after_unit v place u) ∷ 
 
 -- mark by mark: 12 where it is one too many, then 11 where it is above the limit; `left` marks are allowed
 unfoldable pub mark_refusal : ℕ → List ℕ → Option Refusal
-mark_refusal left [] = none
-mark_refusal zero (m ∷ ms) = some TooManyMarks
-mark_refusal (suc n) (m ∷ ms) = pick (nat_le m limit) (mark_refusal n ms) (some PastLimit)
+mark_refusal left [] = None
+mark_refusal zero (m ∷ ms) = Some TooManyMarks
+mark_refusal (suc n) (m ∷ ms) = pick (nat_le m limit) (mark_refusal n ms) (Some PastLimit)

@@ -1,7 +1,6 @@
 -- Document 01, 'Marks follow `pitch_marks`: f64, first f0 120, slope rounded to f32, stop at an instantaneous f0 not above 0.' Document 02,
 -- A6: a target without a pitch.
-use Rattle.std.specs.Prelude.{ℕ, zero, suc, Bool, true, false, ◌&&◌, List, [], ◌∷◌, ◌++◌, pos, nat_le, Float}
-use Rattle.std.proofs.Math.Option.{Option, none, some}
+use Rattle.std.specs.Prelude.{ℕ, zero, suc, Bool, true, false, ◌&&◌, List, [], ◌∷◌, ◌++◌, pos, nat_le, Float, None, Option, Some}
 use Rattle.std.specs.Float.{fin, binary64}
 use Rattle.std.specs.Float.Ieee.{add, sub, mul, div, lt, ne, of_int, to_unsigned}
 use Rattle.float.specs.Casts.{narrow}
@@ -64,13 +63,13 @@ with_mark m c = record { refusal = c.refusal; marks = m ∷ c.marks; time = c.ti
 
 -- 'count, mark': 12 where no more are allowed, then 11 where the mark is above the limit
 unfoldable pub climb : Contour → ℕ → Float → Climb
-climb c zero time = elim (goes_on c time) [ false ↦ ends none time 0 | true ↦ ends (some TooManyMarks) time 0 ]
+climb c zero time = elim (goes_on c time) [ false ↦ ends None time 0 | true ↦ ends (Some TooManyMarks) time 0 ]
 climb c (suc n) time =
     elim (goes_on c time) [
-      | false ↦ ends none time (suc n)
+      | false ↦ ends None time (suc n)
       | true ↦
           elim (nat_le (mark_at c (next_time c time)) limit) [
-            | false ↦ ends (some PastLimit) time (suc n)
+            | false ↦ ends (Some PastLimit) time (suc n)
             | true ↦ with_mark (mark_at c (next_time c time)) (climb c n (next_time c time))
           ]
     ]
@@ -99,10 +98,10 @@ contour_to rate s position f0 = record { rate = rate; from = s.position; f0 = s.
 unfoldable pub climb_to : Float → Stage → Float → Float → Climb
 climb_to rate s position f0 =
     elim (ne s.time position && lt s.position position) [
-      | false ↦ ends none s.time s.left
+      | false ↦ ends None s.time s.left
       | true ↦
           elim (is_finite (slope_of s position f0)) [
-            | false ↦ ends (some BadSlope) s.time s.left
+            | false ↦ ends (Some BadSlope) s.time s.left
             | true ↦ climb (contour_to rate s position f0) s.left s.time
           ]
     ]
@@ -112,8 +111,8 @@ stage_after c position f0 = record { time = c.time; position = position; f0 = f0
 
 -- the marks of one target, then those of the others, if none was refused
 abbrev pub then_marks : Option Refusal → List ℕ → Made → Made
-then_marks none ms rest = record { refusal = rest.refusal; marks = ms ++ rest.marks }
-then_marks (some r) ms rest = record { refusal = some r; marks = ms }
+then_marks None ms rest = record { refusal = rest.refusal; marks = ms ++ rest.marks }
+then_marks (Some r) ms rest = record { refusal = Some r; marks = ms }
 
 -- the position that a target counts: 'an absent pos still counts 0'
 abbrev pub position_counted : Target → Float
@@ -127,7 +126,7 @@ f0_counted last (Int i) = as_f32 (Int i)
 f0_counted last (FloatValue x) = as_f32 (FloatValue x)
 
 unfoldable pub marks_from : Float → Stage → List Target → Made
-marks_from rate s [] = record { refusal = none; marks = [] }
+marks_from rate s [] = record { refusal = None; marks = [] }
 marks_from rate s (t ∷ ts) =
     let position = position_counted t in
     let f0 = f0_counted s.f0 t.f0 in

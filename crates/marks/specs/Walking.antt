@@ -1,6 +1,5 @@
 -- Inner: The making of pitch marks one at a time: what is still to come from where it stands.
-use Rattle.std.specs.Prelude.{◌≡◌, ℕ, ◌+◌, ◌-◌, ◌≤◌, Bool, true, false, ◌&&◌, List, [], ◌∷◌, drop, pos, nat_le, nat_lt, Float}
-use Rattle.std.proofs.Math.Option.{Option, none, some}
+use Rattle.std.specs.Prelude.{◌≡◌, ℕ, ◌+◌, ◌-◌, ◌≤◌, Bool, true, false, ◌&&◌, List, [], ◌∷◌, drop, pos, nat_le, nat_lt, Float, Err, None, Ok, Option, Result, Some}
 use Rattle.std.specs.Float.{fin, binary64}
 use Rattle.std.specs.Float.Ieee.{lt, ne, of_int}
 use Rattle.base.specs.Choice.{pick}
@@ -12,13 +11,6 @@ use Rattle.sheet.specs.Places.{is_read}
 use Rattle.sheet.specs.declared.Places.{Places}
 use Rattle.units.specs.Units.{limit}
 use Rattle.marks.specs.declared.Walk.{Walk}
-use Rattle.marks.specs.declared.Aimed.{Aimed}
-use Rattle.marks.specs.declared.Aimed.TheVariants as aim
-use Rattle.marks.specs.declared.Settled.{Settled}
-use Rattle.marks.specs.declared.Settled.TheVariants as settled
-use Rattle.marks.specs.declared.Event.{Event}
-use Rattle.marks.specs.declared.Event.TheVariants.{Mark, Refused, Done}
-use Rattle.marks.specs.declared.Step.{Step}
 use Rattle.marks.specs.PitchMarks.{Made, Contour, Climb, Stage, most_marks, goes_on, next_time, mark_at, climb, ends, slope_of, stage_after, then_marks, marks_from}
 
 -- ---- where the walk stands
@@ -39,7 +31,7 @@ on_way w = w.climbs && goes_on (contour_of w) w.time
 
 -- the marks up to that target
 unfoldable pub climb_of : Walk → Climb
-climb_of w = pick w.climbs (climb (contour_of w) w.left w.time) (ends none w.time w.left)
+climb_of w = pick w.climbs (climb (contour_of w) w.left w.time) (ends None w.time w.left)
 
 -- then those of the targets ts
 unfoldable pub coming_to : Walk → List Target → Made
@@ -104,23 +96,23 @@ moved w position f0 next climbs slope =
 abbrev pub is_ahead : Walk → Float → Bool
 is_ahead w position = ne w.time position && lt w.position position
 
-unfoldable pub aimed : Walk → Float → Float → ℕ → Aimed
+unfoldable pub aimed : Walk → Float → Float → ℕ → Result Walk Refusal
 aimed w position f0 next =
     let slope = slope_of (stage_of w) position f0 in
     pick (is_ahead w position)
-    (pick (is_finite slope) (aim.To (moved w position f0 next true slope)) (aim.Refused BadSlope))
-    (aim.To (moved w position f0 next false (fin false 0 (pos 0))))
+    (pick (is_finite slope) (Ok (moved w position f0 next true slope)) (Err BadSlope))
+    (Ok (moved w position f0 next false (fin false 0 (pos 0))))
 
 -- the walk goes to the next target of the sheet: the same is still to come
-abbrev pub Advanced : List ℕ → Walk → Aimed → Type 0
-Advanced sheet w (aim.To n) = (coming sheet n ≡ coming sheet w) × Reads sheet n × (n.left ≡ w.left) × (n.targets + 1 ≡ w.targets)
-Advanced sheet w (aim.Refused r) = coming sheet w ≡ stops (some r)
+abbrev pub Advanced : List ℕ → Walk → Result Walk Refusal → Type 0
+Advanced sheet w (Ok n) = (coming sheet n ≡ coming sheet w) × Reads sheet n × (n.left ≡ w.left) × (n.targets + 1 ≡ w.targets)
+Advanced sheet w (Err r) = coming sheet w ≡ stops (Some r)
 
 -- the walk goes to the target on the way to which the next mark is
-abbrev pub IsSettled : List ℕ → Walk → Settled → Type 0
-IsSettled sheet w (settled.OnWay n) = (coming sheet n ≡ coming sheet w) × Reads sheet n × (n.left ≡ w.left) × (on_way n ≡ true)
-IsSettled sheet w (settled.Refused r) = coming sheet w ≡ stops (some r)
-IsSettled sheet w settled.Done = coming sheet w ≡ stops none
+abbrev pub IsSettled : List ℕ → Walk → Result (Option Walk) Refusal → Type 0
+IsSettled sheet w (Ok (Some n)) = (coming sheet n ≡ coming sheet w) × Reads sheet n × (n.left ≡ w.left) × (on_way n ≡ true)
+IsSettled sheet w (Err r) = coming sheet w ≡ stops (Some r)
+IsSettled sheet w (Ok None) = coming sheet w ≡ stops None
 
 -- ---- one mark
 
@@ -142,33 +134,25 @@ later w time =
     }
 
 -- 'count, mark': on the way to a target
-unfoldable pub marked : Walk → Step
+unfoldable pub marked : Walk → Result (ℕ × Walk) Refusal
 marked w =
     let time = next_time (contour_of w) w.time in
     let m = mark_at (contour_of w) time in
-    pick (nat_lt 0 w.left)
-    (pick (nat_le m limit) (record { event = Mark m; walk = later w time }) (record { event = Refused PastLimit; walk = w }))
-    (record { event = Refused TooManyMarks; walk = w })
+    pick (nat_lt 0 w.left) (pick (nat_le m limit) (Ok (m, later w time)) (Err PastLimit)) (Err TooManyMarks)
 
--- what an event begins, with what comes after it
-abbrev pub beginning : Event → Made → Made
-beginning (Mark m) rest = record { refusal = rest.refusal; marks = m ∷ rest.marks }
-beginning (Refused r) rest = stops (some r)
-beginning Done rest = stops none
-
-abbrev pub marks_in : Event → ℕ
-marks_in (Mark m) = 1
-marks_in (Refused r) = 0
-marks_in Done = 0
-
-abbrev pub mark_in : Event → ℕ
-mark_in (Mark m) = m
-mark_in (Refused r) = 0
-mark_in Done = 0
+-- what a mark begins, with what comes after it
+abbrev pub beginning : ℕ → Made → Made
+beginning m rest = record { refusal = rest.refusal; marks = m ∷ rest.marks }
 
 -- a step gives the first of what is still to come, and the walk from where the rest comes
-pub record Steps (sheet : List ℕ) (w : Walk) (s : Step) : Type 0 where
-  pub is : coming sheet w ≡ beginning s.event (coming sheet s.walk)
-  pub ahead : Reads sheet s.walk
-  pub counted : s.walk.left + marks_in s.event ≡ w.left
-  pub low : mark_in s.event ≤ limit
+pub record Steps (sheet : List ℕ) (w : Walk) (m : ℕ) (n : Walk) : Type 0 where
+  pub is : coming sheet w ≡ beginning m (coming sheet n)
+  pub ahead : Reads sheet n
+  pub counted : n.left + 1 ≡ w.left
+  pub low : m ≤ limit
+
+-- a step, no mark more, or the refusal that ends the marks
+abbrev pub IsNext : List ℕ → Walk → Result (Option (ℕ × Walk)) Refusal → Type 0
+IsNext sheet w (Ok (Some s)) = Steps sheet w s.0 s.1
+IsNext sheet w (Err r) = coming sheet w ≡ stops (Some r)
+IsNext sheet w (Ok None) = coming sheet w ≡ stops None

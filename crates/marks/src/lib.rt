@@ -3,12 +3,11 @@
 
 pub mod natural;
 
-ghost use Rattle.std.specs.Prelude.{◌≡◌, ◌+◌, ◌<◌, ◌≤◌, true, false, length, take};
+ghost use Rattle.std.specs.Prelude.{◌≡◌, ◌+◌, ◌<◌, ◌≤◌, true, false, length, take, Ok};
 ghost use Rattle.base.specs.Buffers.{over, flat};
 ghost use Rattle.base.specs.Bytes.{bytes_of};
 ghost use Rattle.sheet.specs.Sheet as sheets;
 ghost use Rattle.sheet.specs.Places.{answer_in, sheet_places};
-ghost use Rattle.sheet.specs.declared.SheetAnswer.TheVariants.{Read};
 ghost use Rattle.marks.specs.PitchMarks as pitch;
 ghost use Rattle.marks.specs.Walking as walking;
 ghost use Rattle.marks.specs.Walking.{contour_of, stage_of, on_way, is_ahead, Reads};
@@ -21,19 +20,12 @@ use sheet::{Places, Value};
 // How many marks a call has at most.
 pub const MOST_MARKS: usize = 65536;
 
-// How many marks there are, how many of them are taken, and the last one taken, 0 where there is
-// none; or why they are refused.
+// How many marks there are, how many of them are taken, and the last one taken, 0 where there is none.
 #[derive(Clone, Copy)]
-pub enum CheckedMarks {
-    Refused(Refusal),
-    Made(usize, usize, usize),
-}
-
-// The place after a unit and how many marks are still allowed, or why its marks are refused.
-#[derive(Clone, Copy)]
-pub enum UnitMarks {
-    Refused(Refusal),
-    To(usize, usize),
+pub struct Counts {
+    pub marks: usize,
+    pub taken: usize,
+    pub last: usize,
 }
 
 // How many marks there are, how many of them are taken, and the last one taken; the next one may be
@@ -64,36 +56,6 @@ struct Walk {
     targets: usize,
 }
 
-// What comes next: a mark, the refusal that ends the marks, or no mark more.
-#[derive(Clone, Copy)]
-enum Event {
-    Mark(usize),
-    Refused(Refusal),
-    Done,
-}
-
-// What came next, and the walk after it.
-#[derive(Clone, Copy)]
-struct Step {
-    event: Event,
-    walk: Walk,
-}
-
-// The walk with the next mark on its way, or how the marks end.
-#[derive(Clone, Copy)]
-enum Settled {
-    OnWay(Walk),
-    Refused(Refusal),
-    Done,
-}
-
-// The walk on the way to a target, or why it is refused.
-#[derive(Clone, Copy)]
-enum Aimed {
-    Refused(Refusal),
-    To(Walk),
-}
-
 // The pitch at the walk's time.
 fn f0_at(w: Walk) -> f64
     ensures { result ≡ pitch.f0_at (contour_of w) w.time }
@@ -105,20 +67,14 @@ fn f0_at(w: Walk) -> f64
 fn goes_on(w: Walk) -> bool
     ensures { result ≡ pitch.goes_on (contour_of w) w.time }
 {
-    if w.time < w.position {
-        return 0.0 < f0_at(w);
-    }
-    false
+    w.time < w.position && 0.0 < f0_at(w)
 }
 
 // Whether the next mark is on the way to the target.
 fn is_on_way(w: Walk) -> bool
     ensures { result ≡ on_way w }
 {
-    if w.climbs {
-        return goes_on(w);
-    }
-    false
+    w.climbs && goes_on(w)
 }
 
 // The time one period later.
@@ -144,34 +100,21 @@ fn slope_to(w: Walk, position: f64, f0: f64) -> f64
     std::num::f32_to_f64_with_nan(float::f64_to_f32(rise / run))
 }
 
-// Whether x is neither an infinity nor a NaN.
-fn is_finite(x: f64) -> bool
-    ensures { result ≡ sheets.is_finite x }
-{
-    let infinity = 1.0 / 0.0;
-    if x < infinity {
-        return -infinity < x;
-    }
-    false
-}
-
 // The walk on the way to a target, on which it climbs or not.
 fn moved(w: Walk, position: f64, f0: f64, next: usize, climbs: bool, slope: f64) -> Walk
     requires { 0 < w.targets }
     ensures { result ≡ walking.moved w position f0 next climbs slope }
 {
     Walk {
-        rate: w.rate,
-        time: w.time,
         from: w.position,
         base: w.f0,
-        slope: slope,
-        position: position,
-        f0: f0,
-        climbs: climbs,
-        left: w.left,
+        slope,
+        position,
+        f0,
+        climbs,
         at: next,
         targets: w.targets - 1,
+        ..w
     }
 }
 
@@ -179,25 +122,22 @@ fn moved(w: Walk, position: f64, f0: f64, next: usize, climbs: bool, slope: f64)
 fn is_ahead(w: Walk, position: f64) -> bool
     ensures { result ≡ is_ahead w position }
 {
-    if w.time != position {
-        return w.position < position;
-    }
-    false
+    w.time != position && w.position < position
 }
 
 // On to a target, after which the sheet goes on at `next`.
-fn aim(w: Walk, position: f64, f0: f64, next: usize) -> Aimed
+fn aim(w: Walk, position: f64, f0: f64, next: usize) -> Result<Walk, Refusal>
     requires { 0 < w.targets }
     ensures { result ≡ walking.aimed w position f0 next }
 {
     if is_ahead(w, position) {
         let slope = slope_to(w, position, f0);
-        if is_finite(slope) {
-            return Aimed::To(moved(w, position, f0, next, true, slope));
+        if slope.is_finite() {
+            return Ok(moved(w, position, f0, next, true, slope));
         }
-        return Aimed::Refused(Refusal::BadSlope);
+        return Err(Refusal::BadSlope);
     }
-    Aimed::To(moved(w, position, f0, next, false, 0.0))
+    Ok(moved(w, position, f0, next, false, 0.0))
 }
 
 // The pitch that a target counts: what it says, or where it says none the last one counted.
@@ -211,38 +151,33 @@ fn f0_counted(last: f64, f0: Value) -> f64
 }
 
 // On to the next target of the sheet.
-fn advance(sheet: &[u8], w: Walk) -> Aimed
+fn advance(sheet: &[u8], w: Walk) -> Result<Walk, Refusal>
     requires { Reads sheet.now w × (0 < w.targets) × (on_way w ≡ false) }
     ensures { walking.Advanced sheet.now w result }
 {
-    let step = sheet::target_at(sheet, w.at);
-    let target = step.target;
-    let pos = target.pos;
-    let f0 = target.f0;
+    let read = sheet::target_at(sheet, w.at);
+    let target = read.value;
     aim(
         w,
-        std::num::f32_to_f64_with_nan(sheet::as_f32(pos)),
-        f0_counted(w.f0, f0),
-        step.next,
+        std::num::f32_to_f64_with_nan(sheet::as_f32(target.pos)),
+        f0_counted(w.f0, target.f0),
+        read.next,
     )
 }
 
-// On to the target on the way to which the next mark is.
-fn settle(sheet: &[u8], w: Walk) -> Settled
+// The walk on to the target on the way to which the next mark is, if there is one.
+fn settle(sheet: &[u8], w: Walk) -> Result<Option<Walk>, Refusal>
     requires { Reads sheet.now w }
     ensures { walking.IsSettled sheet.now w result }
 {
     let mut walk = w;
     while !is_on_way(walk) {
         if walk.targets == 0 {
-            return Settled::Done;
+            return Ok(None);
         }
-        match advance(sheet, walk) {
-            Aimed::Refused(cause) => return Settled::Refused(cause),
-            Aimed::To(next) => walk = next,
-        }
+        walk = advance(sheet, walk)?;
     }
-    Settled::OnWay(walk)
+    Ok(Some(walk))
 }
 
 // The walk at a later time, with one mark made.
@@ -251,59 +186,35 @@ fn later(w: Walk, time: f64) -> Walk
     ensures { result ≡ walking.later w time }
 {
     Walk {
-        rate: w.rate,
-        time: time,
-        from: w.from,
-        base: w.base,
-        slope: w.slope,
-        position: w.position,
-        f0: w.f0,
-        climbs: w.climbs,
+        time,
         left: w.left - 1,
-        at: w.at,
-        targets: w.targets,
+        ..w
     }
 }
 
-// One mark, on the way to the target.
-fn mark(w: Walk) -> Step
+// One mark, on the way to the target, and the walk after it.
+fn mark(w: Walk) -> Result<(usize, Walk), Refusal>
     ensures { result ≡ walking.marked w }
 {
     if 0 < w.left {
         let time = next_time(w);
         let m = mark_at(w, time);
         if m <= units::LIMIT {
-            return Step {
-                event: Event::Mark(m),
-                walk: later(w, time),
-            };
+            return Ok((m, later(w, time)));
         }
-        return Step {
-            event: Event::Refused(Refusal::PastLimit),
-            walk: w,
-        };
+        return Err(Refusal::PastLimit);
     }
-    Step {
-        event: Event::Refused(Refusal::TooManyMarks),
-        walk: w,
-    }
+    Err(Refusal::TooManyMarks)
 }
 
-// The first of what is still to come.
-fn next(sheet: &[u8], w: Walk) -> Step
+// The next mark, if there is one, and the walk after it.
+fn next(sheet: &[u8], w: Walk) -> Result<Option<(usize, Walk)>, Refusal>
     requires { Reads sheet.now w }
-    ensures { walking.Steps sheet.now w result }
+    ensures { walking.IsNext sheet.now w result }
 {
-    match settle(sheet, w) {
-        Settled::OnWay(on) => mark(on),
-        Settled::Refused(cause) => Step {
-            event: Event::Refused(cause),
-            walk: w,
-        },
-        Settled::Done => Step {
-            event: Event::Done,
-            walk: w,
-        },
+    match settle(sheet, w)? {
+        Some(on) => Ok(Some(mark(on)?)),
+        None => Ok(None),
     }
 }
 
@@ -312,9 +223,8 @@ fn next(sheet: &[u8], w: Walk) -> Step
 fn fresh(places: Places, rate: u32) -> Walk
     ensures { result ≡ walking.fresh_walk places rate }
 {
-    let targets = places.targets;
     Walk {
-        rate: std::num::nearest_u64_to_f64(rate as u64),
+        rate: std::num::nearest_u64_to_f64(u64::from(rate)),
         time: 0.0,
         from: 0.0,
         base: 0.0,
@@ -323,8 +233,8 @@ fn fresh(places: Places, rate: u32) -> Walk
         f0: 120.0,
         climbs: false,
         left: MOST_MARKS,
-        at: targets.at,
-        targets: targets.count,
+        at: places.targets.at,
+        targets: places.targets.count,
     }
 }
 
@@ -332,10 +242,7 @@ fn fresh(places: Places, rate: u32) -> Walk
 fn takes(t: Tally, end: usize, m: usize) -> bool
     ensures { result ≡ checking.takes t end m }
 {
-    if t.taking {
-        return m <= end;
-    }
-    false
+    t.taking && m <= end
 }
 
 // One mark more.
@@ -354,15 +261,14 @@ fn tallied(t: Tally, end: usize, m: usize) -> Tally
     Tally {
         taking: false,
         count: t.count + 1,
-        taken: t.taken,
-        last: t.last,
+        ..t
     }
 }
 
 // Makes the pitch marks of a sheet at a rate in samples per second, and writes none. Those up to
 // `end`, the greatest target end of the units, are taken.
-pub fn check_marks(sheet: &[u8], places: Places, rate: u32, end: usize) -> CheckedMarks
-    requires { answer_in (sheet_places sheet.now) ≡ Read places }
+pub fn check_marks(sheet: &[u8], places: Places, rate: u32, end: usize) -> Result<Counts, Refusal>
+    requires { answer_in (sheet_places sheet.now) ≡ Ok places }
     ensures { (result ≡ checking.checked_marks end (pitch.pitch_marks rate (sheets.sheet_of sheet.now).targets)) ×
         checking.Bounded result }
 {
@@ -373,16 +279,15 @@ pub fn check_marks(sheet: &[u8], places: Places, rate: u32, end: usize) -> Check
         taken: 0,
         last: 0,
     };
-    loop {
-        let step = next(sheet, walk);
-        let event = step.event;
-        match event {
-            Event::Refused(cause) => return CheckedMarks::Refused(cause),
-            Event::Done => return CheckedMarks::Made(tally.count, tally.taken, tally.last),
-            Event::Mark(m) => tally = tallied(tally, end, m),
-        }
-        walk = step.walk;
+    while let Some((m, after)) = next(sheet, walk)? {
+        tally = tallied(tally, end, m);
+        walk = after;
     }
+    Ok(Counts {
+        marks: tally.count,
+        taken: tally.taken,
+        last: tally.last,
+    })
 }
 
 // Stores the first `count` pitch marks, four bytes each, at the front of a buffer.
@@ -394,16 +299,14 @@ pub fn store_marks(sheet: &[u8], places: Places, rate: u32, count: usize, marks:
         marks.old }
 {
     let mut walk = fresh(places, rate);
-    let mut i = 0;
-    while i < count {
-        let step = next(sheet, walk);
-        let event = step.event;
-        match event {
-            Event::Refused(_) => return,
-            Event::Done => return,
-            Event::Mark(m) => base::bytes::put_u32(marks, i, m as u32),
+    for i in 0..count {
+        match next(sheet, walk) {
+            Ok(Some((m, after))) => {
+                base::bytes::put_u32(marks, i, m as u32);
+                walk = after;
+            }
+            Ok(None) => return,
+            Err(_) => return,
         }
-        i += 1;
-        walk = step.walk;
     }
 }

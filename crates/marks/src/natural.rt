@@ -10,12 +10,12 @@ ghost use Rattle.units.specs.Units.{limit};
 ghost use Rattle.marks.specs.NaturalMarks.{marks_of_periods};
 ghost use Rattle.marks.specs.Checking.{unit_marks, LowPlace, CanStoreUnit};
 
-use super::UnitMarks;
 use refusal::Refusal;
 use voice::DiphoneVoice;
 
 // Makes the marks of the periods from `first` on and before `last`, and writes none. The first
-// period begins at a place; `left` marks are allowed.
+// period begins at a place; `left` marks are allowed. Answers the place after the unit and how many marks
+// are still allowed.
 pub fn check_unit_marks(
     file: &[u8],
     d: DiphoneVoice,
@@ -23,25 +23,23 @@ pub fn check_unit_marks(
     first: usize,
     last: usize,
     left: usize,
-) -> UnitMarks
+) -> Result<(usize, usize), Refusal>
     requires { IsOpen file.now d × (last ≤ d.header.frames) × (place ≤ limit) }
     ensures { (result ≡ unit_marks (voice_of file.now) place first (last - first) left) × LowPlace result }
 {
     let mut end = place;
     let mut allowed = left;
-    let mut p = first;
-    while p < last {
+    for p in first..last {
         if allowed == 0 {
-            return UnitMarks::Refused(Refusal::TooManyMarks);
+            return Err(Refusal::TooManyMarks);
         }
         end += voice::periods::period_samples(file, d, p);
         if units::LIMIT < end {
-            return UnitMarks::Refused(Refusal::PastLimit);
+            return Err(Refusal::PastLimit);
         }
         allowed -= 1;
-        p += 1;
     }
-    UnitMarks::To(end, allowed)
+    Ok((end, allowed))
 }
 
 // Stores those marks, four bytes each, from element `index` of a buffer on, and answers the place
@@ -62,13 +60,9 @@ pub fn store_unit_marks(
         (flat (bytes_of 4) (marks_of_periods (voice_of file.now) place first (last - first)))) }
 {
     let mut end = place;
-    let mut i = index;
-    let mut p = first;
-    while p < last {
+    for p in first..last {
         end += voice::periods::period_samples(file, d, p);
-        base::bytes::put_u32(marks, i, end as u32);
-        i += 1;
-        p += 1;
+        base::bytes::put_u32(marks, index + (p - first), end as u32);
     }
     end
 }

@@ -1,8 +1,8 @@
 -- The checks of a voice's index, by its place in the file.
+use Rattle.std.specs.Prelude.{Err, None, Ok, Option, Some}
 use mathlib.Core.Path.{◌≡◌, refl, sym, ap, ◌∙◌}
 use mathlib.Core.Bool.{Bool, true, false, not}
 use mathlib.Core.List.{List, [], ◌∷◌}
-use mathlib.Core.Option.{Option, none, some}
 use Prim.Native.Nat.{ℕ, ◌+◌, ◌/◌, ◌^◌, ◌≤◌, ◌<◌}
 use native.Mathlib.Omega.{arith}
 use borrow.Author.Tests.{leb-true, le-leb, lt-leb}
@@ -19,7 +19,6 @@ use Rattle.container.proofs.SectionLaws.{section-within}
 use Rattle.refusal.specs.declared.Refusal.{Refusal}
 use Rattle.refusal.specs.declared.Refusal.TheVariants.{ShortBuffer}
 use Rattle.voice.specs.declared.DiphoneVoice.{DiphoneVoice}
-use Rattle.voice.specs.declared.Opened.TheVariants.{Open, Refused}
 use Rattle.voice.specs.Voice.{Voice, entries_from, sort, places_of, voice_at, voice_of}
 use Rattle.voice.specs.Opening.{good_index, is_empty, distinct, within_frames, IsOpen, opening_refusal, open_refusal, open_of, answer_opening, index_fits, index_bytes, index_after}
 use Rattle.voice.proofs.OpeningLaws.{passed}
@@ -65,30 +64,30 @@ module _ (file : List ℕ) (d : DiphoneVoice) (o : IsOpen file d) where
   pub entries-count : length (voice_of file).entries ≡ d.count
   entries-count = ap length entries-are ∙ length-walk (bytes_at file d.entries) d.count 0 open-whole
 
-pub none-fails : first_failing {C = Refusal} [] ≡ none
+pub none-fails : first_failing {C = Refusal} [] ≡ None
 unfolding first_failing
 none-fails = refl
 
 -- an answer that is a voice: the file opens
-pub open-answer : (file : List ℕ) (d : DiphoneVoice) → answer_opening (places_of file) (opening_refusal file) ≡ Open d → IsOpen file d
+pub open-answer : (file : List ℕ) (d : DiphoneVoice) → answer_opening (places_of file) (opening_refusal file) ≡ Ok d → IsOpen file d
 open-answer file d e = by (opening_refusal file) refl e
   where
-    by : (r : Option Refusal) → opening_refusal file ≡ r → answer_opening (places_of file) r ≡ Open d → IsOpen file d
-    by none q e = record { places = let s : places_of file ≡ d = cc in sym s; fit = q }
-    by (some c) q e = absurd (let z : ◌≡◌ {A = ℕ} 0 1 = cc in omega arith)
+    by : (r : Option Refusal) → opening_refusal file ≡ r → answer_opening (places_of file) r ≡ Ok d → IsOpen file d
+    by None q e = record { places = let s : places_of file ≡ d = cc in sym s; fit = q }
+    by (Some c) q e = absurd (let z : ◌≡◌ {A = ℕ} 0 1 = cc in omega arith)
 
 -- an answer that is a refusal is the opening's
-pub refused-answer : (file : List ℕ) (c : Refusal) → answer_opening (places_of file) (opening_refusal file) ≡ Refused c → opening_refusal file ≡ some c
+pub refused-answer : (file : List ℕ) (c : Refusal) → answer_opening (places_of file) (opening_refusal file) ≡ Err c → opening_refusal file ≡ Some c
 refused-answer file c e = by (opening_refusal file) e
   where
-    by : (r : Option Refusal) → answer_opening (places_of file) r ≡ Refused c → r ≡ some c
-    by none e = absurd (let z : ◌≡◌ {A = ℕ} 0 1 = cc in omega arith)
-    by (some x) e = let s : x ≡ c = cc in ap (λ (y : Refusal). some y) s
+    by : (r : Option Refusal) → answer_opening (places_of file) r ≡ Err c → r ≡ Some c
+    by None e = absurd (let z : ◌≡◌ {A = ℕ} 0 1 = cc in omega arith)
+    by (Some x) e = let s : x ≡ c = cc in ap (λ (y : Refusal). Some y) s
 
 -- ---- the opening's answer, and the index buffer after it
 
-module _ (file : List ℕ) (c : Refusal) (e : opening_refusal file ≡ some c) where
-  pub refused-open : (n : ℕ) → open_of file n ≡ Refused c
+module _ (file : List ℕ) (c : Refusal) (e : opening_refusal file ≡ Some c) where
+  pub refused-open : (n : ℕ) → open_of file n ≡ Err c
   unfolding open_of open_refusal
   refused-open n = rw e
 
@@ -105,21 +104,21 @@ module _ (file : List ℕ) (d : DiphoneVoice) (o : IsOpen file d) where
   unfolding index_fits
   fits_not n h = let k = entries-count file d o in rw k (lt-leb d.count (n / 8) h)
 
-  pub by-fit : (n : ℕ) (t : Bool) → index_fits (voice_of file) n ≡ t → open_refusal file n ≡ pick t none (some ShortBuffer)
+  pub by-fit : (n : ℕ) (t : Bool) → index_fits (voice_of file) n ≡ t → open_refusal file n ≡ pick t None (Some ShortBuffer)
   unfolding open_refusal
   by-fit n t e = rw (o.fit, e)
 
-  pub short-open : (old : List ℕ) → length old / 8 < d.count → (Refused ShortBuffer ≡ open_of file (length old)) × (old ≡ index_after file old)
+  pub short-open : (old : List ℕ) → length old / 8 < d.count → (Err ShortBuffer ≡ open_of file (length old)) × (old ≡ index_after file old)
   unfolding open_of index_after
   short-open old h =
       let e = by-fit (length old) false (fits_not (length old) h) in
       (sym (ap (answer_opening (places_of file)) e), sym (ap (λ (r : Option Refusal). unless_refused r (index_bytes (voice_of file)) old) e))
 
-  pub filled-open : (old : List ℕ) → d.count ≤ length old / 8 → (Open d ≡ open_of file (length old)) × (over (index_bytes (voice_of file)) old ≡ index_after file old)
+  pub filled-open : (old : List ℕ) → d.count ≤ length old / 8 → (Ok d ≡ open_of file (length old)) × (over (index_bytes (voice_of file)) old ≡ index_after file old)
   unfolding open_of index_after
   filled-open old h =
       let e = by-fit (length old) true (fits_by (length old) h) in
-      (ap (λ (x : DiphoneVoice). Open x) o.places ∙ sym (ap (answer_opening (places_of file)) e), sym (ap (λ (r : Option Refusal). unless_refused r (index_bytes (voice_of file)) old) e))
+      (ap (λ (x : DiphoneVoice). Ok x) o.places ∙ sym (ap (answer_opening (places_of file)) e), sym (ap (λ (r : Option Refusal). unless_refused r (index_bytes (voice_of file)) old) e))
 
   -- the index has room for the entries
   pub able : (bs : List ℕ) (n : ℕ) → bs ≡ bytes_at file d.entries → index_fits (voice_of file) n ≡ true → length file < 2 ^ 63 → Indexable bs d.count d.entries.at n

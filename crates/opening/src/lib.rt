@@ -9,7 +9,7 @@ ghost use Rattle.voice.specs.Voice.{places_of, voice_of};
 ghost use Rattle.voice.specs.Opening as openings;
 
 use refusal::Refusal;
-use voice::{DiphoneVoice, Opened};
+use voice::DiphoneVoice;
 
 // Whether the index is fit: not cut short, not empty, each name UTF-8 and none twice, no entry past
 // the frames.
@@ -17,7 +17,7 @@ fn has_good_index(file: &[u8], d: DiphoneVoice) -> bool
     requires { d ≡ places_of file.now }
     ensures { result ≡ openings.good_index file.now }
 {
-    let section = container::span_of(voice::sections::find_index(file));
+    let section = container::span_of(container::find(file, b"dip.index"));
     if section.len < 4 {
         return false;
     }
@@ -36,38 +36,38 @@ fn has_good_index(file: &[u8], d: DiphoneVoice) -> bool
 }
 
 // Checks 5 to 7, and where the tables stand.
-fn check_tables(file: &[u8]) -> Opened
+fn check_tables(file: &[u8]) -> Result<DiphoneVoice, Refusal>
     ensures { result ≡ openings.answer_opening (places_of file.now)
         (first_failing (openings.table_checks file.now)) }
 {
     if !voice::header::is_good(voice::sections::header_bytes(file)) {
-        return Opened::Refused(Refusal::BadHeader);
+        return Err(Refusal::BadHeader);
     }
     let d = voice::sections::places_of(file);
     if !voice::tables::is_good(file, d) {
-        return Opened::Refused(Refusal::BadTables);
+        return Err(Refusal::BadTables);
     }
     if !has_good_index(file, d) {
-        return Opened::Refused(Refusal::BadIndex);
+        return Err(Refusal::BadIndex);
     }
-    Opened::Open(d)
+    Ok(d)
 }
 
 // Checks 1 to 7, and where the tables stand.
-pub fn check(file: &[u8]) -> Opened
+pub fn check(file: &[u8]) -> Result<DiphoneVoice, Refusal>
     ensures { result ≡ openings.answer_opening (places_of file.now) (openings.opening_refusal file.now) }
 {
     if !container::has_magic(file) {
-        return Opened::Refused(Refusal::BadMagic);
+        return Err(Refusal::BadMagic);
     }
     if !container::has_whole_sections(file) {
-        return Opened::Refused(Refusal::SectionCut);
+        return Err(Refusal::SectionCut);
     }
     if !container::is_diphone(file) {
-        return Opened::Refused(Refusal::NotDiphone);
+        return Err(Refusal::NotDiphone);
     }
     if !voice::sections::has_needed(file) {
-        return Opened::Refused(Refusal::MissingSection);
+        return Err(Refusal::MissingSection);
     }
     check_tables(file)
 }
@@ -83,26 +83,24 @@ pub fn fill_index(file: &[u8], d: DiphoneVoice, index: &mut [u8])
 }
 
 // 13 for the sorted index, which is filled otherwise.
-fn open_index(file: &[u8], d: DiphoneVoice, index: &mut [u8]) -> Opened
+fn open_index(file: &[u8], d: DiphoneVoice, index: &mut [u8]) -> Result<DiphoneVoice, Refusal>
     requires { openings.IsOpen file.now d }
     ensures { (result ≡ openings.open_of file.now (length index.old)) ×
         (index.new ≡ openings.index_after file.now index.old) }
 {
     if index.len() / 8 < d.count {
-        return Opened::Refused(Refusal::ShortBuffer);
+        return Err(Refusal::ShortBuffer);
     }
     fill_index(file, d, index);
-    Opened::Open(d)
+    Ok(d)
 }
 
 // Opens a voice file: checks 1 to 7, then 13; fills the sorted index.
-pub fn open(file: &[u8], index: &mut [u8]) -> Opened
+pub fn open(file: &[u8], index: &mut [u8]) -> Result<DiphoneVoice, Refusal>
     ensures { (result ≡ openings.open_of file.now (length index.old)) ×
         (index.new ≡ openings.index_after file.now index.old) ×
         (openings.open_number result ≡ answer_of (openings.open_refusal file.now (length index.old))) }
 {
-    match check(file) {
-        Opened::Open(d) => open_index(file, d, index),
-        Opened::Refused(cause) => Opened::Refused(cause),
-    }
+    let d = check(file)?;
+    open_index(file, d, index)
 }

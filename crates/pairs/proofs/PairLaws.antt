@@ -1,16 +1,14 @@
 -- A walk over the pairs: what is found so far decides with what is still to come.
-use mathlib.Core.Path.{◌≡◌, refl, ap, ◌∙◌}
+use Rattle.std.specs.Prelude.{None, Ok, Option, Some}
+use Rattle.std.specs.Option as option
+use mathlib.Core.Path.{◌≡◌, refl, sym, ap, ◌∙◌}
 use mathlib.Core.Bool.{Bool, true, false, ◌&&◌}
 use mathlib.Core.List.{List, [], ◌∷◌}
-use mathlib.Core.Option.{Option, none, some}
 use Prim.Native.Nat.{ℕ}
-use native.Mathlib.Omega.{arith}
 use Rattle.voice.specs.Voice.{Entry, Voice, is_some}
 use Rattle.index.specs.declared.EntryPeriods.{EntryPeriods}
-use Rattle.index.specs.declared.FoundEntry.TheVariants.{Found, Missing}
 use Rattle.index.specs.Index.{found_of}
 use Rattle.sheet.specs.declared.Places.{Places}
-use Rattle.sheet.specs.declared.SheetAnswer.TheVariants.{Read}
 use Rattle.sheet.specs.Sheet.{SegmentRead, repeated, sheet_of}
 use Rattle.sheet.specs.Answers.{segment_read}
 use Rattle.sheet.specs.Places.{answer_in, sheet_places}
@@ -42,32 +40,30 @@ module _ (v : Voice) (fold : Bool) (sheet : List ℕ) (count : ℕ) where
       ap (λ (n : ℕ). found_from find left (folded fold (list_in (segments_at sheet count n w.next)))) z ∙ ap (found_from find left) (folded-nil fold)
 
   -- the walk x comes after a pair of w
-  module _ (w x : PairWalk) (e : coming sheet count w ≡ segment_read sheet x.left ∷ coming sheet count x) where
+  module _ (w x : PairWalk) (n : coming sheet count w ≡ segment_read sheet x.left ∷ coming sheet count x) where
     abbrev pub tried : Option Entry
     tried = find (folded_segment fold (segment_read sheet w.left)) (folded_segment fold (segment_read sheet x.left))
 
     next : found_coming w ≡ (is_some tried && found_coming x)
     unfolding found_from
-    next = ap (found_from find (folded_segment fold (segment_read sheet w.left))) (ap (folded fold) e ∙ folded-cons fold (segment_read sheet x.left) (coming sheet count x))
+    next = ap (found_from find (folded_segment fold (segment_read sheet w.left))) (ap (folded fold) n ∙ folded-cons fold (segment_read sheet x.left) (coming sheet count x))
 
-    pub found-missing : found_of tried ≡ Missing → found_coming w ≡ false
-    found-missing m = next ∙ ap (λ (t : Bool). t && found_coming x) (by tried m)
-      where
-        by : (o : Option Entry) → found_of o ≡ Missing → is_some o ≡ false
-        by none e = refl
-        by (some y) e = absurd (let z : ◌≡◌ {A = ℕ} 0 1 = cc in omega arith)
+    -- by what the voice has under its names
+    module _ (f : Option EntryPeriods) (e : f ≡ found_of tried) where
+      by : (o : Option Entry) → is_some o ≡ option.is_some (found_of o)
+      by None = refl
+      by (Some y) = refl
 
-    pub found-next : (q : EntryPeriods) → found_of tried ≡ Found q → found_coming w ≡ found_coming x
-    found-next q f = next ∙ ap (λ (t : Bool). t && found_coming x) (by tried f)
-      where
-        by : (o : Option Entry) → found_of o ≡ Found q → is_some o ≡ true
-        by none e = absurd (let z : ◌≡◌ {A = ℕ} 0 1 = cc in omega arith)
-        by (some y) e = refl
+      pub found-missing : option.is_some f ≡ false → found_coming w ≡ false
+      found-missing m = next ∙ ap (λ (t : Bool). t && found_coming x) (by tried ∙ ap (λ (g : Option EntryPeriods). option.is_some g) (sym e) ∙ m)
+
+      pub found-next : option.is_some f ≡ true → found_coming w ≡ found_coming x
+      found-next m = next ∙ ap (λ (t : Bool). t && found_coming x) (by tried ∙ ap (λ (g : Option EntryPeriods). option.is_some g) (sym e) ∙ m)
 
 -- a sheet without segments has no pair
-pub found-empty : (v : Voice) (fold : Bool) (sheet : List ℕ) (p : Places) → answer_in (sheet_places sheet) ≡ Read p → p.segments.count ≡ 0
+pub found-empty : (v : Voice) (fold : Bool) (sheet : List ℕ) (p : Places) → answer_in (sheet_places sheet) ≡ Ok p → p.segments.count ≡ 0
     → tried_found v fold (sheet_of sheet).segments ≡ true
 unfolding tried_found found_all
 found-empty v fold sheet p e z =
-    let none : folded fold (sheet_of sheet).segments ≡ [] = ap (folded fold) (ahead_none _ sheet _ _ _ z (sheet-ahead sheet p e).segments) ∙ folded-nil fold in
-    rw none
+    let empty : folded fold (sheet_of sheet).segments ≡ [] = ap (folded fold) (ahead_none _ sheet _ _ _ z (sheet-ahead sheet p e).segments) ∙ folded-nil fold in
+    rw empty

@@ -1,2 +1,2 @@
 -- Laws about phoneset's definitions.
-pub mod WordLaws
+pub mod NameLaws

@@ -1,3 +1,2 @@
 -- The root of phoneset's definitions.
 pub mod Phones
-pub mod Words

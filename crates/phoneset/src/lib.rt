@@ -1,63 +1,54 @@
 // The phones of US English, and whether one is a vowel.
 #![tactic(auto)]
 
-ghost use Rattle.std.specs.Prelude.{◌≡◌};
+ghost use Rattle.std.specs.Prelude.{◌≡◌, map};
 ghost use Rattle.text.specs.Names.{among};
 ghost use Rattle.phoneset.specs.Phones as phones;
-ghost use Rattle.phoneset.specs.Words.{words};
 
 // A phone's feature `vc`: `+` for a vowel, `-` for another phone, `0` for a name that is no phone.
-#[derive(Clone, Copy)]
+#[derive(Clone, Copy, PartialEq, Eq)]
 pub enum Vc {
     Plus,
     Minus,
     Zero,
 }
 
-// Whether the name is one of a text's words, each of which is followed by a space.
-fn is_word(name: &[u8], text: &[u8]) -> bool
-    ensures { result ≡ among name.now (words text.now) }
+// The phones whose `vc` is `+`.
+static VOWELS: [&[u8]; 20] = [
+    b"aa", b"ae", b"ah", b"ao", b"aw", b"ax", b"axr", b"ay", b"eh", b"el", b"em", b"en", b"er",
+    b"ey", b"ih", b"iy", b"ow", b"oy", b"uh", b"uw",
+];
+
+// The phones whose `vc` is `-`.
+static CONSONANTS: [&[u8]; 30] = [
+    b"b", b"ch", b"d", b"dh", b"dx", b"f", b"g", b"hh", b"hv", b"jh", b"k", b"l", b"m", b"n",
+    b"nx", b"ng", b"p", b"r", b"s", b"sh", b"t", b"th", b"v", b"w", b"y", b"z", b"zh", b"pau",
+    b"h#", b"brth",
+];
+
+// Whether the name is one of a list's.
+fn is_among(name: &[u8], names: &[&[u8]]) -> bool
+    ensures { result ≡ among name.now (map (λ n. n.now) names.now) }
 {
-    let mut from = 0;
-    let mut at = 0;
-    while at < text.len() {
-        if text[at] == 32 {
-            if text::same(name, &text[from..at]) {
-                return true;
-            }
-            from = at + 1;
-        }
-        at += 1;
-    }
-    false
+    names.contains(&name)
 }
 
 // The feature `vc` of a phone.
 pub fn vc_of(name: &[u8]) -> Vc
     ensures { result ≡ phones.vc name.now }
 {
-    if is_word(
-        name,
-        b"aa ae ah ao aw ax axr ay eh el em en er ey ih iy ow oy uh uw ",
-    ) {
-        return Vc::Plus;
+    if is_among(name, &VOWELS) {
+        Vc::Plus
+    } else if is_among(name, &CONSONANTS) {
+        Vc::Minus
+    } else {
+        Vc::Zero
     }
-    if is_word(
-        name,
-        b"b ch d dh dx f g hh hv jh k l m n nx ng p r s sh t th v w y z zh pau h# brth ",
-    ) {
-        return Vc::Minus;
-    }
-    Vc::Zero
 }
 
 // Whether a phone is a vowel.
 pub fn is_vowel(name: &[u8]) -> bool
     ensures { result ≡ phones.is_vowel name.now }
 {
-    match vc_of(name) {
-        Vc::Plus => true,
-        Vc::Minus => false,
-        Vc::Zero => false,
-    }
+    vc_of(name) == Vc::Plus
 }

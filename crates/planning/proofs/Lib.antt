@@ -1,3 +1,2 @@
 -- Laws about planning.
-pub mod HoldLaws
 pub mod PlanLaws

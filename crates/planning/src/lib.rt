@@ -8,7 +8,7 @@ ghost use Rattle.call.specs.Buffers as calls;
 ghost use Rattle.checking.specs.Checks.{Passes};
 ghost use Rattle.planning.specs.Planning as planning;
 
-use call::{Called, Lengths, Need, Planned, Settings, Summary};
+use call::{Lengths, Need, Planned, Settings, Summary};
 use checking::Fit;
 use lpc::{FilterState, ResynthType};
 use refusal::Refusal;
@@ -18,7 +18,7 @@ pub fn refused(cause: Refusal) -> Planned
     ensures { result ≡ calls.refused_by cause }
 {
     Planned {
-        answer: Called::Refused(cause),
+        answer: Err(cause),
         state: FilterState::fresh(ResynthType::Fixed, 0, 0.0, 0.0),
     }
 }
@@ -27,8 +27,7 @@ pub fn refused(cause: Refusal) -> Planned
 fn summary(fit: Fit) -> Summary
     ensures { result ≡ planning.summary_by fit.voice.header.rate fit.voice.header.order fit.need }
 {
-    let voice = fit.voice;
-    let header = voice.header;
+    let header = fit.voice.header;
     let need = fit.need;
     Summary {
         rate: header.rate as usize,
@@ -41,25 +40,16 @@ fn summary(fit: Fit) -> Summary
 }
 
 // Whether buffers of so many bytes have the elements that a call needs.
+#[tactic(auto, unfolding(call::specs::Buffers::holds, base::specs::Lists::every))]
 fn holds(need: Need, lengths: Lengths) -> bool
     ensures { result ≡ calls.holds need lengths }
 {
-    if lengths.index / 8 < need.entries {
-        return false;
-    }
-    if lengths.marks / 4 < need.marks {
-        return false;
-    }
-    if lengths.sizes / 4 < need.periods {
-        return false;
-    }
-    if lengths.rows / 2 < need.rows {
-        return false;
-    }
-    if lengths.excitation < need.excitation {
-        return false;
-    }
-    need.decoded <= lengths.decoded
+    need.entries <= lengths.index / 8
+        && need.marks <= lengths.marks / 4
+        && need.periods <= lengths.sizes / 4
+        && need.rows <= lengths.rows / 2
+        && need.excitation <= lengths.excitation
+        && need.decoded <= lengths.decoded
 }
 
 // Fills the buffers of a call that fit.
@@ -92,10 +82,9 @@ fn plan_filled(
         file, sheet, settings, fit.voice, fit.places, fit.need, index, marks, sizes, rows,
         excitation, decoded,
     );
-    let voice = fit.voice;
-    let header = voice.header;
+    let header = fit.voice.header;
     Planned {
-        answer: Called::Spoken(summary(fit)),
+        answer: Ok(summary(fit)),
         state: FilterState::fresh(
             call::filter_in(settings),
             header.order as usize,

@@ -5,28 +5,27 @@
 mod periods;
 mod windows;
 
-ghost use Rattle.std.specs.Prelude.{◌≡◌, ◌+◌, ◌*◌, ◌<◌, ◌≤◌, length};
+ghost use Rattle.std.specs.Prelude.{◌≡◌, ◌+◌, ◌*◌, ◌<◌, ◌≤◌, length, Ok};
 ghost use Rattle.sheet.specs.Places.{sheet_places, answer_in};
-ghost use Rattle.sheet.specs.declared.SheetAnswer.TheVariants as SheetAnswer;
 ghost use Rattle.voice.specs.Opening.{IsOpen};
 ghost use Rattle.units.specs.Asked.{Searchable};
 ghost use Rattle.units.specs.Units.{Inside};
 ghost use Rattle.probe_call.specs.Natural.{Goes};
 
-use marks::{CheckedMarks, UnitMarks};
 use refusal::Refusal;
-use sheet::{Places, SheetAnswer};
+use sheet::Places;
 use units::{Held, Selection, Unit};
-use voice::{DiphoneVoice, Opened};
+use voice::DiphoneVoice;
 
 fn store_pitch_marks(sheet: &[u8], places: Places, rate: u32, marks: &mut [u8]) -> u32
-    requires { answer_in (sheet_places sheet.now) ≡ SheetAnswer.Read places }
+    requires { answer_in (sheet_places sheet.now) ≡ Ok places }
 {
     match marks::check_marks(sheet, places, rate, 16777215) {
-        CheckedMarks::Refused(cause) => refusal::number(cause),
-        CheckedMarks::Made(count, _, _) => {
+        Err(cause) => u32::from(cause),
+        Ok(counts) => {
+            let count = counts.marks;
             if marks.len() / 4 < count {
-                return refusal::number(Refusal::ShortBuffer);
+                return u32::from(Refusal::ShortBuffer);
             }
             marks::store_marks(sheet, places, rate, count, marks);
             16 * (count as u32)
@@ -38,8 +37,8 @@ fn store_pitch_marks(sheet: &[u8], places: Places, rate: u32, marks: &mut [u8]) 
 #[unsafe(no_mangle)]
 pub extern "C" fn probe_pitch_marks(sheet: &[u8], rate: u32, marks: &mut [u8]) -> u32 {
     match sheet::read_sheet(sheet) {
-        SheetAnswer::Refused(cause) => refusal::number(cause),
-        SheetAnswer::Read(places) => store_pitch_marks(sheet, places, rate, marks),
+        Ok(places) => store_pitch_marks(sheet, places, rate, marks),
+        Err(cause) => u32::from(cause),
     }
 }
 
@@ -55,7 +54,7 @@ fn put_unit(out: &mut [u8], n: usize, unit: Unit)
 
 fn store_units(file: &[u8], index: &[u8], sheet: &[u8], by: Selection, out: &mut [u8]) -> usize
     requires { Searchable file.now index.now by ×
-        (answer_in (sheet_places sheet.now) ≡ SheetAnswer.Read by.places) }
+        (answer_in (sheet_places sheet.now) ≡ Ok by.places) }
 {
     let places = by.places;
     let segments = places.segments;
@@ -86,13 +85,13 @@ fn units_of(
     fold: bool,
     out: &mut [u8],
 ) -> usize
-    requires { IsOpen file.now d × (answer_in (sheet_places sheet.now) ≡ SheetAnswer.Read places) }
+    requires { IsOpen file.now d × (answer_in (sheet_places sheet.now) ≡ Ok places) }
 {
     let by = Selection {
         voice: d,
         held: Held::Nothing,
-        places: places,
-        fold: fold,
+        places,
+        fold,
     };
     let none = [0u8; 1];
     store_units(file, &none, sheet, by, out)
@@ -101,13 +100,13 @@ fn units_of(
 // The units of a sheet on a voice; 0 where there is a refusal.
 #[unsafe(no_mangle)]
 pub extern "C" fn probe_units(file: &[u8], sheet: &[u8], fold: u32, out: &mut [u8]) -> usize {
-    match opening::check(file) {
-        Opened::Refused(_) => 0,
-        Opened::Open(d) => match sheet::read_sheet(sheet) {
-            SheetAnswer::Refused(_) => 0,
-            SheetAnswer::Read(places) => units_of(file, d, sheet, places, fold != 0, out),
-        },
-    }
+    let Ok(d) = opening::check(file) else {
+        return 0;
+    };
+    let Ok(places) = sheet::read_sheet(sheet) else {
+        return 0;
+    };
+    units_of(file, d, sheet, places, fold != 0, out)
 }
 
 // The natural marks of one unit, stored after those of the units before it; `left` of 65,536 marks
@@ -119,28 +118,24 @@ fn store_natural(
     place: usize,
     left: usize,
     marks: &mut [u8],
-) -> UnitMarks
+) -> Result<(usize, usize), Refusal>
     requires { IsOpen file.now d × (Inside d.header.frames unit × ((place ≤ 16777215) × (left ≤ 65536))) }
     ensures { (length marks.new ≡ length marks.old) × Goes left result }
 {
     let first = unit.first_period;
     let last = unit.last_period;
-    match marks::natural::check_unit_marks(file, d, place, first, last, left) {
-        UnitMarks::Refused(cause) => UnitMarks::Refused(cause),
-        UnitMarks::To(end, after) => {
-            let index = 65536 - left;
-            if marks.len() / 4 < index + (last - first) {
-                return UnitMarks::Refused(Refusal::ShortBuffer);
-            }
-            marks::natural::store_unit_marks(file, d, place, first, last, index, marks);
-            UnitMarks::To(end, after)
-        }
+    let (end, after) = marks::natural::check_unit_marks(file, d, place, first, last, left)?;
+    let index = 65536 - left;
+    if marks.len() / 4 < index + (last - first) {
+        return Err(Refusal::ShortBuffer);
     }
+    marks::natural::store_unit_marks(file, d, place, first, last, index, marks);
+    Ok((end, after))
 }
 
 fn store_natural_marks(file: &[u8], sheet: &[u8], by: Selection, marks: &mut [u8]) -> u32
     requires { (IsOpen file.now by.voice × (by.held ≡ Held.Nothing)) ×
-        (answer_in (sheet_places sheet.now) ≡ SheetAnswer.Read by.places) }
+        (answer_in (sheet_places sheet.now) ≡ Ok by.places) }
 {
     let places = by.places;
     let segments = places.segments;
@@ -155,8 +150,8 @@ fn store_natural_marks(file: &[u8], sheet: &[u8], by: Selection, marks: &mut [u8
     while units::step::has_unit(walk) {
         let step = units::step::next_unit(file, &none, sheet, by, &sampled, walk);
         match store_natural(file, by.voice, step.unit, place, left, marks) {
-            UnitMarks::Refused(cause) => return refusal::number(cause),
-            UnitMarks::To(end, after) => {
+            Err(cause) => return u32::from(cause),
+            Ok((end, after)) => {
                 place = end;
                 left = after;
             }
@@ -174,19 +169,17 @@ pub extern "C" fn probe_natural_marks(
     fold: u32,
     marks: &mut [u8],
 ) -> u32 {
-    match opening::check(file) {
-        Opened::Refused(_) => 0,
-        Opened::Open(d) => match sheet::read_sheet(sheet) {
-            SheetAnswer::Refused(_) => 0,
-            SheetAnswer::Read(places) => {
-                let by = Selection {
-                    voice: d,
-                    held: Held::Nothing,
-                    places: places,
-                    fold: fold != 0,
-                };
-                store_natural_marks(file, sheet, by, marks)
-            }
-        },
-    }
+    let Ok(voice) = opening::check(file) else {
+        return 0;
+    };
+    let Ok(places) = sheet::read_sheet(sheet) else {
+        return 0;
+    };
+    let by = Selection {
+        voice,
+        held: Held::Nothing,
+        places,
+        fold: fold != 0,
+    };
+    store_natural_marks(file, sheet, by, marks)
 }

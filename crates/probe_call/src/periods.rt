@@ -1,24 +1,25 @@
 // The periods of a voice, exported so that the comparison with the Rust can read them.
 ghost use Rattle.voice.specs.Opening.{IsOpen};
 
-use voice::{DiphoneVoice, Opened};
+use voice::DiphoneVoice;
 
 fn samples_of(file: &[u8], d: DiphoneVoice, p: usize) -> usize
     requires { IsOpen file.now d }
 {
     if p < d.header.frames as usize {
-        return voice::periods::period_samples(file, d, p);
+        voice::periods::period_samples(file, d, p)
+    } else {
+        0
     }
-    0
 }
 
 // How many samples period p has; 0 where the voice does not open or has no such period.
 #[unsafe(no_mangle)]
 pub extern "C" fn probe_period_samples(file: &[u8], p: usize) -> usize {
-    match opening::check(file) {
-        Opened::Open(d) => samples_of(file, d, p),
-        Opened::Refused(_) => 0,
-    }
+    let Ok(d) = opening::check(file) else {
+        return 0;
+    };
+    samples_of(file, d, p)
 }
 
 // Copies bytes to a buffer where they fit; how many they are.
@@ -33,34 +34,36 @@ fn residual_of(file: &[u8], d: DiphoneVoice, p: usize, out: &mut [u8]) -> usize
     requires { IsOpen file.now d }
 {
     if p < d.header.frames as usize {
-        return hand_out(voice::periods::residual(file, d, p), out);
+        hand_out(voice::periods::residual(file, d, p), out)
+    } else {
+        0
     }
-    0
 }
 
 // Copies the residual of period p.
 #[unsafe(no_mangle)]
 pub extern "C" fn probe_residual(file: &[u8], p: usize, out: &mut [u8]) -> usize {
-    match opening::check(file) {
-        Opened::Open(d) => residual_of(file, d, p, out),
-        Opened::Refused(_) => 0,
-    }
+    let Ok(d) = opening::check(file) else {
+        return 0;
+    };
+    residual_of(file, d, p, out)
 }
 
 fn row_of(file: &[u8], d: DiphoneVoice, p: usize, out: &mut [u8]) -> usize
     requires { IsOpen file.now d }
 {
     if p < d.header.frames as usize {
-        return hand_out(voice::periods::row(file, d, p), out);
+        hand_out(voice::periods::row(file, d, p), out)
+    } else {
+        0
     }
-    0
 }
 
 // Copies the row of period p, as stored.
 #[unsafe(no_mangle)]
 pub extern "C" fn probe_row(file: &[u8], p: usize, out: &mut [u8]) -> usize {
-    match opening::check(file) {
-        Opened::Open(d) => row_of(file, d, p, out),
-        Opened::Refused(_) => 0,
-    }
+    let Ok(d) = opening::check(file) else {
+        return 0;
+    };
+    row_of(file, d, p, out)
 }

@@ -4,17 +4,14 @@ ghost use Rattle.voice.specs.Opening.{IsOpen};
 
 use taking::Progress;
 use units::Unit;
-use voice::{DiphoneVoice, Opened};
+use voice::DiphoneVoice;
 
 // Fills the window twice: the second time the decode buffer's front has the period.
 fn window_of(file: &[u8], d: DiphoneVoice, p: usize, window: &mut [u8], decoded: &mut [u8]) -> u32
     requires { IsOpen file.now d }
 {
     let frames = d.header.frames as usize;
-    if frames <= p {
-        return 0;
-    }
-    if decoded.len() < voice::periods::decode_room(file, d) {
+    if frames <= p || decoded.len() < voice::periods::decode_room(file, d) {
         return 0;
     }
     let size = window.len();
@@ -24,11 +21,7 @@ fn window_of(file: &[u8], d: DiphoneVoice, p: usize, window: &mut [u8], decoded:
         front: frames,
     };
     let front = taking::take_samples(file, d, p, size, none, window, decoded);
-    let held = Progress {
-        taken: 0,
-        mark: 0,
-        front: front,
-    };
+    let held = Progress { front, ..none };
     taking::take_samples(file, d, p, size, held, window, decoded);
     1
 }
@@ -42,20 +35,17 @@ pub extern "C" fn probe_window(
     window: &mut [u8],
     decoded: &mut [u8],
 ) -> u32 {
-    match opening::check(file) {
-        Opened::Open(d) => window_of(file, d, p, window, decoded),
-        Opened::Refused(_) => 0,
-    }
+    let Ok(d) = opening::check(file) else {
+        return 0;
+    };
+    window_of(file, d, p, window, decoded)
 }
 
 fn nearest_of(file: &[u8], d: DiphoneVoice, first: usize, last: usize, place: f32) -> usize
     requires { IsOpen file.now d }
 {
     let frames = d.header.frames as usize;
-    if last < first {
-        return frames;
-    }
-    if frames < last {
+    if last < first || frames < last {
         return frames;
     }
     let unit = Unit {
@@ -77,8 +67,8 @@ pub extern "C" fn probe_nearest_period(
     last: usize,
     place: u32,
 ) -> usize {
-    match opening::check(file) {
-        Opened::Open(d) => nearest_of(file, d, first, last, float::f32_from_word(place)),
-        Opened::Refused(_) => 0,
-    }
+    let Ok(d) = opening::check(file) else {
+        return 0;
+    };
+    nearest_of(file, d, first, last, float::f32_from_word(place))
 }

@@ -11,12 +11,10 @@ fn state_after(packed: &[u8], count: usize) -> adpcm::AdpcmState
     ensures { result ≡ state_at (codes_of packed.now) count }
 {
     let mut state = adpcm::AdpcmState::fresh();
-    let mut k = 0;
-    while k < count {
+    for k in 0..count {
         let code = adpcm::code_at(packed, k);
         let g = state.signals_of(code);
         state = state.next_of(code, g);
-        k += 1;
     }
     state
 }

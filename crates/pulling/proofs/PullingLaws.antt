@@ -1,18 +1,17 @@
 -- What a pull has tested, and the next period by the bytes lent.
 use mathlib.Core.Path.{◌≡◌, refl, sym, ap, ◌∙◌}
-use mathlib.Core.Bool.{Bool, true, false, ◌||◌}
+use mathlib.Core.Bool.{Bool, true, false, ◌||◌, ◌&&◌}
 use mathlib.Core.List.{List, [], ◌∷◌}
 use Prim.Native.Nat.{ℕ, zero, suc, ◌+◌, ◌-◌, ◌*◌, ◌/◌, ◌^◌, ◌≤◌, ◌<◌, min}
-use native.Mathlib.Nat.{add-sub_cancel_left, suc-mul, le-div_iff_mul-le}
+use native.Mathlib.Nat.{add-sub_cancel_left, suc-mul}
 use native.Mathlib.Numerals.{add-one}
 use native.Mathlib.Omega.{arith}
-use borrow.Author.Tests.{leb-true, le-leb, lt-leb, eq-eqb, ne_eqb}
+use borrow.Author.Tests.{leb-true, ne_eqb}
 use lib.Dec.{eqb, leb}
 use lib.ListN.{length, get_or, take, drop, length-take, length-drop}
 use Rattle.base.specs.Lists.{every, part}
 use Rattle.base.specs.Bytes.{elements, u32_at}
-use Rattle.base.proofs.CaseLaws.{by_order}
-use Rattle.base.proofs.ListLaws.{every-at, every_one}
+use Rattle.base.proofs.ListLaws.{every-at}
 use Rattle.base.proofs.ByteLaws.{length-elements, get_or-elements, elements-part}
 use Rattle.voice.specs.Header.{in_scale}
 use Rattle.lpc.specs.declared.FilterState.{FilterState}
@@ -31,42 +30,39 @@ take-taken (suc n) (x ∷ l) = ap (λ (t : List ℕ). x ∷ t) (take-taken n l)
 
 -- ---- the tests
 
+-- one after the other: the value that was made, where the one before passed and where it did not
+pub and-passed : {t v a : Bool} → t ≡ true → v ≡ a → v ≡ (t && a)
+and-passed e q = rw e q
+
+pub and-failed : {t v : Bool} (a : Bool) → t ≡ false → v ≡ t → v ≡ (t && a)
+and-failed a e q = rw e (q ∙ e)
+
+and_assoc : (a b c : Bool) → ((a && b) && c) ≡ (a && (b && c))
+and_assoc true b c = refl
+and_assoc false b c = refl
+
+and_true : (a : Bool) → (a && true) ≡ a
+and_true true = refl
+and_true false = refl
+
 -- by the elements lent: m sizes, n row values, k bytes of excitation
-abbrev pub tests : FilterState → ℕ → ℕ → ℕ → List Bool
-tests s m n k =
-    leb s.order 32
-    ∷ leb s.ring_place s.order
-    ∷ leb s.period m
-    ∷ leb s.sample_place k
-    ∷ in_scale s.coeff_min
-    ∷ in_scale s.coeff_range
-    ∷ (eqb s.period m || leb ((s.period + 1) * s.order) n)
-    ∷ []
+module _ (s : FilterState) (sizes rows excitation : List ℕ) where
+  abbrev m : ℕ
+  m = length sizes / 4
 
-pub possible-are : (s : FilterState) (sizes rows excitation : List ℕ)
-    → possible s (lent_of sizes rows excitation) ≡ every (tests s (length sizes / 4) (length rows / 2) (length excitation))
-unfolding possible lent_of
-possible-are s sizes rows excitation =
-    ap (λ (m : ℕ). every (tests s m (length (elements 2 rows)) (length excitation))) (length-elements 4 sizes)
-    ∙ ap (λ (n : ℕ). every (tests s (length sizes / 4) n (length excitation))) (length-elements 2 rows)
+  abbrev n : ℕ
+  n = length rows / 2
 
--- the last one
-module _ (s : FilterState) (m n k : ℕ) where
-  pub given-last : s.period ≡ m → every (drop 6 (tests s m n k)) ≡ true
-  given-last e = every_one _ ∙ rw (eq-eqb s.period m e)
+  possible-are : possible s (lent_of sizes rows excitation)
+      ≡ (leb s.order 32 && (leb s.ring_place s.order && (leb s.period m && (leb s.sample_place (length excitation) && (in_scale s.coeff_min && (in_scale s.coeff_range
+      && (eqb s.period m || leb ((s.period + 1) * s.order) n)))))))
+  unfolding possible lent_of every
+  possible-are = rw (length-elements 4 sizes, length-elements 2 rows, and_true) refl
 
-  pub row_last : (s.period ≡ m → ⊥) → every (drop 6 (tests s m n k)) ≡ leb ((s.period + 1) * s.order) n
-  row_last e = every_one _ ∙ rw (ne_eqb s.period m e)
-
--- a product that does not fit is not made
-pub div-test : (a k n : ℕ) → 0 < k → leb a (n / k) ≡ leb (a * k) n
-div-test a k n h = by_order (n / k) a more within
-  where
-    more : n / k < a → leb a (n / k) ≡ leb (a * k) n
-    more l = lt-leb a (n / k) l ∙ sym (lt-leb (a * k) n (by_order n (a * k) (λ m. m) (λ m. absurd (let q = (le-div_iff_mul-le h).1 m in omega arith))))
-
-    within : a ≤ n / k → leb a (n / k) ≡ leb (a * k) n
-    within l = le-leb a (n / k) l ∙ sym (le-leb (a * k) n ((le-div_iff_mul-le h).0 l))
+  pub possible-by : {a b c d e : Bool} → a ≡ (leb s.order 32 && leb s.ring_place s.order) → b ≡ (a && leb s.period m) → c ≡ (b && leb s.sample_place (length excitation))
+      → d ≡ (c && in_scale s.coeff_min) → e ≡ (d && in_scale s.coeff_range)
+      → (e && (eqb s.period m || leb ((s.period + 1) * s.order) n)) ≡ possible s (lent_of sizes rows excitation)
+  possible-by p q r t u = rw (u, t, r, q, p, and_assoc, and_assoc, and_assoc, and_assoc, and_assoc) (sym possible-are)
 
 -- ---- the next period
 

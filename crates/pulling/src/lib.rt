@@ -14,38 +14,21 @@ use lpc::FilterState;
 fn has_rows(count: usize, order: usize, elements: usize) -> bool
     ensures { result ≡ leb (count * order) elements }
 {
-    if order == 0 {
-        return true;
-    }
-    count <= elements / order
+    order == 0 || count <= elements / order
 }
 
 // Whether a state is possible, and the next row is there where there is a next period.
 pub fn is_possible(state: FilterState, sizes: &[u8], rows: &[u8], excitation: &[u8]) -> bool
     ensures { result ≡ possible state (lent_of sizes.now rows.now excitation.now) }
 {
-    if state.order > 32 {
-        return false;
-    }
-    if state.ring_place > state.order {
-        return false;
-    }
-    if state.period > sizes.len() / 4 {
-        return false;
-    }
-    if state.sample_place > excitation.len() {
-        return false;
-    }
-    if !voice::header::in_scale(state.coeff_min) {
-        return false;
-    }
-    if !voice::header::in_scale(state.coeff_range) {
-        return false;
-    }
-    if state.period == sizes.len() / 4 {
-        return true;
-    }
-    has_rows(state.period + 1, state.order, rows.len() / 2)
+    state.order <= 32
+        && state.ring_place <= state.order
+        && state.period <= sizes.len() / 4
+        && state.sample_place <= excitation.len()
+        && voice::header::in_scale(state.coeff_min)
+        && voice::header::in_scale(state.coeff_range)
+        && (state.period == sizes.len() / 4
+            || has_rows(state.period + 1, state.order, rows.len() / 2))
 }
 
 // How many samples the next period has: its size, cut to what is left of the excitation.
@@ -57,7 +40,7 @@ pub fn next_len(state: FilterState, sizes: &[u8], excitation: &[u8]) -> usize
 {
     let size = base::bytes::u32_at(sizes, state.period) as usize;
     let left = excitation.len() - state.sample_place;
-    if size < left { size } else { left }
+    size.min(left)
 }
 
 // The next period, of n samples: they go to the front of `samples`. Returns the state after it.

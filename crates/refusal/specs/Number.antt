@@ -1,6 +1,5 @@
 -- Document 01, 'Refused calls', and document 02: the number of each cause.
-use Rattle.std.proofs.Math.Option.{Option, none, some}
-use Rattle.std.specs.Prelude.{ℕ}
+use Rattle.std.specs.Prelude.{ℕ, None, Option, Some}
 use Rattle.refusal.specs.declared.Refusal.{Refusal}
 use Rattle.refusal.specs.declared.Refusal.TheVariants.{BadMagic, SectionCut, NotDiphone, MissingSection, BadHeader, BadTables, BadIndex, BadSheet, NotFinite, BadSlope, PastLimit, TooManyMarks, ShortBuffer, ShortSlice, BadState, MissingPair, LongText}
 
@@ -42,5 +41,5 @@ number_of LongText = 17
 
 -- 0, or the number
 abbrev pub answer_of : Option Refusal → ℕ
-answer_of none = 0
-answer_of (some r) = number_of r
+answer_of None = 0
+answer_of (Some r) = number_of r

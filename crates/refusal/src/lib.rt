@@ -4,49 +4,33 @@
 ghost use Rattle.std.specs.Prelude.{◌≡◌};
 ghost use Rattle.refusal.specs.Number.{number_of};
 
-// Document 01's causes, in the order of its table, then document 02's.
-#[derive(Clone, Copy)]
+// Document 01's causes with their numbers, in the order of its table, then document 02's.
+#[derive(Clone, Copy, PartialEq, Eq)]
 pub enum Refusal {
-    BadMagic,
-    SectionCut,
-    NotDiphone,
-    MissingSection,
-    BadHeader,
-    BadTables,
-    BadIndex,
-    BadSheet,
-    NotFinite,
-    BadSlope,
-    PastLimit,
-    TooManyMarks,
-    ShortBuffer,
-    ShortSlice,
-    BadState,
-    MissingPair,
-    LongText,
+    BadMagic = 1,
+    SectionCut = 2,
+    NotDiphone = 3,
+    MissingSection = 4,
+    BadHeader = 5,
+    BadTables = 6,
+    BadIndex = 7,
+    BadSheet = 8,
+    NotFinite = 9,
+    BadSlope = 10,
+    PastLimit = 11,
+    TooManyMarks = 12,
+    ShortBuffer = 13,
+    ShortSlice = 14,
+    BadState = 15,
+    MissingPair = 16,
+    LongText = 17,
 }
 
-// The number of a cause.
-pub fn number(cause: Refusal) -> u32
-    ensures { result ≡ number_of cause }
-{
-    match cause {
-        Refusal::BadMagic => 1,
-        Refusal::SectionCut => 2,
-        Refusal::NotDiphone => 3,
-        Refusal::MissingSection => 4,
-        Refusal::BadHeader => 5,
-        Refusal::BadTables => 6,
-        Refusal::BadIndex => 7,
-        Refusal::BadSheet => 8,
-        Refusal::NotFinite => 9,
-        Refusal::BadSlope => 10,
-        Refusal::PastLimit => 11,
-        Refusal::TooManyMarks => 12,
-        Refusal::ShortBuffer => 13,
-        Refusal::ShortSlice => 14,
-        Refusal::BadState => 15,
-        Refusal::MissingPair => 16,
-        Refusal::LongText => 17,
+impl From<Refusal> for u32 {
+    // The number of a cause.
+    fn from(cause: Refusal) -> u32
+        ensures { result ≡ number_of cause }
+    {
+        cause as u32
     }
 }

@@ -1,14 +1,16 @@
 -- The lengths of a head, the fronts of buffers, and the kind of a text.
 use mathlib.Core.Path.{◌≡◌, refl, sym, ap, subst, ◌∙◌}
-use mathlib.Core.Bool.{Bool, true, false}
+use mathlib.Core.Bool.{Bool, cond, true, false}
 use mathlib.Core.List.{List}
 use Prim.Native.Nat.{ℕ, zero, suc, ◌+◌, ◌-◌, ◌≤◌, ◌<◌}
 use native.Mathlib.Omega.{arith}
 use native.Mathlib.Numerals.{add-one}
 use borrow.Author.Tests.{leb-true, le-leb}
-use lib.Dec.{leb}
-use lib.ListN.{length, get_or, take, replicate, drop, drop_of_length-le}
-use lib.Seq.{drop-cons}
+use lib.Dec.{eqb, leb}
+use lib.ListN.{length, get_or, take, replicate}
+use Rattle.std.specs.List.{count_by}
+use Rattle.std.proofs.lemmas.List.Recursion.{is_count_by}
+use Rattle.base.specs.Choice.{pick}
 use Rattle.base.proofs.CaseLaws.{by_order}
 use Rattle.base.proofs.ListLaws.{and_left, and_right}
 use Rattle.text.specs.Names.{same}
@@ -18,7 +20,7 @@ use Rattle.lines.specs.Lines.{Puts, refused}
 use Rattle.lines.proofs.PutLaws.{put-taken}
 use Rattle.transcript.specs.CallText.{call_text}
 use Rattle.call.specs.Numbers.{settings_of}
-use Rattle.replay.specs.Stored.{length_at, limits, fitting, fits, buffers_of, text_of, kind_up_to, line_end, lines_in}
+use Rattle.replay.specs.Stored.{length_at, limits, fitting, fits, buffers_of, text_of, kind_up_to, lines_in}
 
 -- ---- lengths and limits
 
@@ -67,10 +69,9 @@ module _ {d e s : List ℕ} {n : ℕ} (p : Puts d 0 s e n) (h : n ≤ length d) 
 -- ---- kinds
 
 module _ (text : List ℕ) where
-  pub kind-none : (n : ℕ) → n ≤ 0 → 0 ≡ kind_up_to text n
+  pub kind-none : (n : ℕ) → n ≤ 1 → 0 ≡ kind_up_to text (n - 1)
   unfolding kind_up_to
-  kind-none zero h = refl
-  kind-none (suc n) h = absurd (omega arith)
+  kind-none n h = let q : n - 1 ≡ 0 = omega arith in rw q
 
   pub kind-here : (n : ℕ) → 0 < n → same (refused n) text ≡ true → kind_up_to text n ≡ n
   unfolding kind_up_to
@@ -82,22 +83,15 @@ module _ (text : List ℕ) where
   kind-below zero h e = absurd (omega arith)
   kind-below (suc n) h e = let q : suc n - 1 ≡ n = omega arith in rw (e, q)
 
--- ---- lines: after i bytes
+-- ---- lines
 
-pub record Lines (text : List ℕ) (n i : ℕ) : Type 0 where
-  pub most : i ≤ length text
-  pub counted : n + lines_in (drop i text) ≡ lines_in text
-  pub low : n ≤ i
+abbrev pub ends : ℕ → Bool
+ends byte = eqb byte 10
 
-module _ (text : List ℕ) where
-  pub lines_more : {n m : ℕ} (i : ℕ) → Lines text n i → i < length text → m ≡ line_end (get_or text i 0) → m ≤ 1 → Lines text (n + m) (i + 1)
-  unfolding lines_in
-  lines_more {n} {m} i l h e b =
-      let c : n + (line_end (get_or text i 0) + lines_in (drop (suc i) text)) ≡ lines_in text = rw (drop-cons text i 0 h) at l.counted in
-      record { most = omega arith; counted = rw (add-one, e) (omega (arith, c)); low = omega (arith, l.low, b) }
-
-  pub lines-all : {n : ℕ} (i : ℕ) → Lines text n i → length text ≤ i → (n ≡ lines_in text) × (n ≤ length text)
-  unfolding lines_in
-  lines-all {n} i l h =
-      let c : n + 0 ≡ lines_in text = rw (drop_of_length-le text {i = i} h) at l.counted in
-      (omega (arith, c), omega (arith, l.low, l.most))
+pub lines-count : (text : List ℕ) → lines_in text ≡ count_by ends text
+unfolding lines_in
+lines-count = is_count_by lines_in ends refl (λ byte text. one (ends byte) (lines_in text))
+  where
+    one : (b : Bool) (n : ℕ) → pick b 1 0 + n ≡ cond b (1 + n) n
+    one true n = refl
+    one false n = omega arith

@@ -1,6 +1,6 @@
 -- The stored calls: one after the other, each a head of 20 bytes, then a voice, a sheet and the text that the Rust's answer makes. The
 -- head's first byte is 0 where no voice follows, but that of the call before is used.
-use Rattle.std.specs.Prelude.{◌≡◌, Bool, true, ◌&&◌, List, [], ◌∷◌, ℕ, zero, suc, ◌+◌, ◌-◌, ◌≤◌, ◌<◌, eqb, leb, length, get_or, take, replicate}
+use Rattle.std.specs.Prelude.{◌≡◌, Bool, true, ◌&&◌, List, [], ◌∷◌, ℕ, zero, suc, ◌+◌, ◌-◌, ◌≤◌, eqb, leb, length, get_or, take, replicate}
 use Rattle.base.specs.Choice.{pick}
 use Rattle.base.specs.Bytes.{u16_at}
 use Rattle.text.specs.Names.{same}

@@ -55,13 +55,11 @@ impl Tally {
         requires { self.calls < 65536 }
         ensures { result ≡ tally.first_with self agrees }
     {
-        if agrees {
-            return self.first;
+        if !agrees && self.wrong == 0 {
+            self.calls + 1
+        } else {
+            self.first
         }
-        if self.wrong == 0 {
-            return self.calls + 1;
-        }
-        self.first
     }
 
     // One more call.
@@ -75,7 +73,7 @@ impl Tally {
             calls: self.calls + 1,
             wrong: self.wrong_with(agrees),
             first: self.first_with(agrees),
-            kinds: kinds,
+            kinds,
             periods: self.periods + periods,
         }
     }
@@ -87,7 +85,7 @@ impl Tally {
 fn settings_in(byte: u8) -> Settings
     ensures { result ≡ settings_of byte }
 {
-    call::settings_of(byte as u32)
+    call::settings_of(u32::from(byte))
 }
 
 const LIMITS: [usize; 9] = [
@@ -107,12 +105,10 @@ fn fits(head: &[u8]) -> bool
     requires { length head.now ≡ 20 }
     ensures { result ≡ stored.fits head.now }
 {
-    let mut i = 0;
-    while i < 9 {
-        if LIMITS[i] < base::bytes::u16_at(head, i + 1) as usize {
+    for i in 0..LIMITS.len() {
+        if LIMITS[i] < usize::from(base::bytes::u16_at(head, i + 1)) {
             return false;
         }
-        i += 1;
     }
     true
 }
@@ -122,7 +118,7 @@ fn length_at(head: &[u8], i: usize) -> usize
     requires { stored.Fits head.now × (i < 9) }
     ensures { (result ≡ stored.length_at head.now i) × (result ≤ get_or stored.limits i 0) }
 {
-    base::bytes::u16_at(head, i + 1) as usize
+    usize::from(base::bytes::u16_at(head, i + 1))
 }
 
 // ---- a stored call
@@ -184,45 +180,26 @@ fn is_refused(number: usize, text: &[u8]) -> bool
 fn kind_of(text: &[u8]) -> usize
     ensures { (result ≡ stored.kind_of text.now) × (result ≤ stored.last_kind) }
 {
-    let mut number = LAST_KIND;
-    while number > 0 {
+    for number in (1..LAST_KIND + 1).rev() {
         if is_refused(number, text) {
             return number;
         }
-        number -= 1;
     }
     0
-}
-
-// 1 for the end of a line.
-fn line_end(byte: u8) -> usize
-    ensures { (result ≡ stored.line_end byte) × (result ≤ 1) }
-{
-    if byte == b'\n' { 1 } else { 0 }
 }
 
 // How many lines a text has.
 fn lines_in(text: &[u8]) -> usize
     ensures { (result ≡ stored.lines_in text.now) × (result ≤ length text.now) }
 {
-    let mut n = 0;
-    let mut i = 0;
-    while i < text.len() {
-        n += line_end(text[i]);
-        i += 1;
-    }
-    n
+    text.iter().filter(|byte| **byte == b'\n').count()
 }
 
 // How many periods a text has: its lines after the first.
 fn periods_in(text: &[u8]) -> usize
     ensures { (result ≡ stored.periods_in text.now) × (result ≤ length text.now) }
 {
-    let n = lines_in(text);
-    if n == 0 {
-        return 0;
-    }
-    n - 1
+    lines_in(text).saturating_sub(1)
 }
 
 // ---- the file
@@ -266,10 +243,7 @@ fn next_compared<F: Read>(file: &mut F, head: &[u8], voice: &[u8], v: usize) -> 
     let mut want = [0u8; 65536];
     let s = length_at(head, 1);
     let w = length_at(head, 8);
-    if !read_part(file, &mut sheet, s) {
-        return Found::Damaged;
-    }
-    if !read_part(file, &mut want, w) {
+    if !read_part(file, &mut sheet, s) || !read_part(file, &mut want, w) {
         return Found::Damaged;
     }
     compared(head, &voice[..v], &sheet[..s], &want[..w])
@@ -301,10 +275,7 @@ fn next<F: Read>(file: &mut F, voice: &mut [u8], v: usize) -> Found
     if n == 0 {
         return Found::End;
     }
-    if n < 20 {
-        return Found::Damaged;
-    }
-    if !fits(&head) {
+    if n < 20 || !fits(&head) {
         return Found::Damaged;
     }
     next_call(file, &head, voice, v)

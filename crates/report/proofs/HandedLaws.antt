@@ -1,7 +1,7 @@
 -- The report of a call that the first program speaks.
+use Rattle.std.specs.Prelude.{Err, None, Ok, Result, Some}
 use mathlib.Core.Path.{◌≡◌, sym, ap, subst, ◌∙◌}
 use mathlib.Core.List.{List, [], ◌∷◌}
-use mathlib.Core.Option.{none, some}
 use Prim.Native.Nat.{ℕ, ◌*◌, ◌≤◌}
 use native.Mathlib.Nat.{le_of_eq}
 use native.Mathlib.Omega.{arith}
@@ -18,13 +18,9 @@ use Rattle.sheet.specs.Sheet.{sheet_of}
 use Rattle.call.specs.declared.Settings.{Settings}
 use Rattle.call.specs.declared.Summary.{Summary}
 use Rattle.call.specs.declared.Planned.{Planned}
-use Rattle.call.specs.declared.Called.{Called}
-use Rattle.call.specs.declared.Called.TheVariants.{Spoken, Refused as CallRefused}
 use Rattle.call.specs.Buffers.{Buffers, check_refusal, call_refusal, planned_of}
 use Rattle.transcript.specs.Program.{program_settings, program_buffers}
 use Rattle.transcript.proofs.CallLaws.{opening, periods-fit, excitation-fit, answer-none, answer-some}
-use Rattle.reporting.specs.declared.Reported.{Reported}
-use Rattle.reporting.specs.declared.Reported.TheVariants.{Made, Refused}
 use Rattle.reporting.specs.Report.{Line, line_bytes, report_of, report_bytes, refusal_of_report, reported_of, lines_left}
 use Rattle.reporting.specs.Claims.{OfPair}
 use Rattle.reporting.proofs.ReportLaws.{EndsBy, as-many-lines, report-few, report-ends}
@@ -38,12 +34,12 @@ pub answer-is : (file sheet : List ℕ) (settings : Settings) (r : Planned) → 
     → r.answer ≡ (planned_of file sheet program_settings program_buffers).answer
 answer-is file sheet settings r p e = rw (e, p)
 
-module _ (file sheet : List ℕ) (a : Called) (e : a ≡ (planned_of file sheet program_settings program_buffers).answer) where
-  pub spoken-none : {m : Summary} → a ≡ Spoken m → call_refusal file sheet program_settings program_buffers ≡ none
+module _ (file sheet : List ℕ) (a : Result Summary Refusal) (e : a ≡ (planned_of file sheet program_settings program_buffers).answer) where
+  pub spoken-none : {m : Summary} → a ≡ Ok m → call_refusal file sheet program_settings program_buffers ≡ None
   unfolding planned_of
   spoken-none {m} q = answer-none (voice_of file) (sheet_of sheet) program_settings m _ (sym e ∙ q)
 
-  pub refused-some : {c : Refusal} → a ≡ CallRefused c → call_refusal file sheet program_settings program_buffers ≡ some c
+  pub refused-some : {c : Refusal} → a ≡ Err c → call_refusal file sheet program_settings program_buffers ≡ Some c
   unfolding planned_of
   refused-some {c} q = answer-some (voice_of file) (sheet_of sheet) program_settings c _ (sym e ∙ q)
 
@@ -64,7 +60,7 @@ short-by n (l ∷ ls) h (cons p d) (cons e k) =
     let second = p.second in
     cons {x = l} (record { pair = omega arith; half = omega arith; first = omega arith; size = omega arith }) (short-by n ls h d k)
 
-module _ (file sheet : List ℕ) (settings : Settings) (b : Buffers) (bytes : Bytes file) (n : call_refusal file sheet settings b ≡ none)
+module _ (file sheet : List ℕ) (settings : Settings) (b : Buffers) (bytes : Bytes file) (n : call_refusal file sheet settings b ≡ None)
     (sizes : length b.sizes ≤ 4096) (excitation : length b.excitation ≤ 4096) where
   abbrev ls : List Line
   ls = report_of (voice_of file) (sheet_of sheet) settings
@@ -81,14 +77,14 @@ module _ (file sheet : List ℕ) (settings : Settings) (b : Buffers) (bytes : By
       short-by _ ls (omega arith) (report-few (voice_of file) sheet settings) (report-ends file (sheet_of sheet) settings (opening file sheet settings b bytes n))
 
   module _ (old : List ℕ) (long : length old ≡ 16384) where
-    passes : refusal_of_report file sheet settings (length old) ≡ none
+    passes : refusal_of_report file sheet settings (length old) ≡ None
     unfolding refusal_of_report call_refusal
     passes =
         let h : 16 * length ls ≤ length old = let f = few in omega arith in
         rw ((next-none (check_refusal file sheet settings) _ n).0, le-leb _ _ h)
 
     -- it is not refused
-    pub made : reported_of file sheet settings (length old) ≡ Made (length ls)
+    pub made : reported_of file sheet settings (length old) ≡ Ok (length ls)
     unfolding reported_of
     made = rw passes
 
@@ -96,10 +92,10 @@ module _ (file sheet : List ℕ) (settings : Settings) (b : Buffers) (bytes : By
     unfolding lines_left report_bytes
     left_is = rw passes
 
-    pub never : (r : Reported) (c : Refusal) → r ≡ reported_of file sheet settings (length old) → r ≡ Refused c → ⊥
+    pub never : (r : Result ℕ Refusal) (c : Refusal) → r ≡ reported_of file sheet settings (length old) → r ≡ Err c → ⊥
     never r c e q = let m = made in let z : ◌≡◌ {A = ℕ} 0 1 = cc in omega arith
 
-    pub handed : (r : Reported) (count : ℕ) (left : List ℕ) → r ≡ reported_of file sheet settings (length old) → left ≡ lines_left file sheet settings old → r ≡ Made count → Handed ls left count
+    pub handed : (r : Result ℕ Refusal) (count : ℕ) (left : List ℕ) → r ≡ reported_of file sheet settings (length old) → left ≡ lines_left file sheet settings old → r ≡ Ok count → Handed ls left count
     handed r count left e l q =
         let m = made in
         let f = few in
@@ -129,10 +125,10 @@ sizes-low = le_of_eq (length-replicate {A = ℕ} 4096 0)
 excitation-low : length (replicate {A = ℕ} 4096 255) ≤ 4096
 excitation-low = le_of_eq (length-replicate {A = ℕ} 4096 255)
 
-module _ (file sheet : List ℕ) (bytes : Bytes file) (n : call_refusal file sheet program_settings program_buffers ≡ none)
-    (settings : Settings) (is : settings ≡ program_settings) (r : Reported) (answers : r ≡ reported_of file sheet settings (length fresh)) where
-  pub never-refused : (c : Refusal) → r ≡ Refused c → ⊥
+module _ (file sheet : List ℕ) (bytes : Bytes file) (n : call_refusal file sheet program_settings program_buffers ≡ None)
+    (settings : Settings) (is : settings ≡ program_settings) (r : Result ℕ Refusal) (answers : r ≡ reported_of file sheet settings (length fresh)) where
+  pub never-refused : (c : Refusal) → r ≡ Err c → ⊥
   never-refused c q = never file sheet program_settings program_buffers bytes n sizes-low excitation-low fresh fresh-long r c (rw is at answers) q
 
-  pub hands : (count : ℕ) (left : List ℕ) → left ≡ lines_left file sheet settings fresh → r ≡ Made count → Handed (report_of (voice_of file) (sheet_of sheet) program_settings) left count
+  pub hands : (count : ℕ) (left : List ℕ) → left ≡ lines_left file sheet settings fresh → r ≡ Ok count → Handed (report_of (voice_of file) (sheet_of sheet) program_settings) left count
   hands count left l q = handed file sheet program_settings program_buffers bytes n sizes-low excitation-low fresh fresh-long r count left (rw is at answers) (rw is at l) q

@@ -1,6 +1,5 @@
 -- Document 02, A2: what the second program prints.
-use Rattle.std.specs.Prelude.{List, [], ◌∷◌, ◌++◌, ℕ, suc}
-use Rattle.std.proofs.Math.Option.{Option}
+use Rattle.std.specs.Prelude.{List, [], ◌∷◌, ◌++◌, ℕ, suc, Option}
 use Rattle.refusal.specs.declared.Refusal.{Refusal}
 use Rattle.voice.specs.Voice.{Voice, voice_of}
 use Rattle.sheet.specs.Sheet.{Sheet, sheet_of}

@@ -2,8 +2,7 @@
 // buffers, and prints a line for each period, or why the call is refused.
 #![tactic(auto)]
 
-ghost use Rattle.std.specs.Prelude.{◌≡◌, ◌≤◌, length};
-ghost use Rattle.std.proofs.Math.Option.{none};
+ghost use Rattle.std.specs.Prelude.{◌≡◌, ◌≤◌, length, None};
 ghost use Rattle.io.specs.Counts.{IsPrefixLen};
 ghost use Rattle.voice.specs.Voice.{voice_of};
 ghost use Rattle.sheet.specs.Sheet.{sheet_of};
@@ -14,13 +13,12 @@ ghost use Rattle.reporting.specs.Report.{report_of};
 ghost use Rattle.report.specs.ReportText.{lines_text, text_of};
 ghost use Rattle.report.specs.Packed.{lines_in, Printable};
 
-use call::Called;
+use call::Summary;
 use refusal::Refusal;
-use reporting::Reported;
 use std::io;
 
 // What the first program's call answers.
-fn called(voice: &[u8], sheet: &[u8]) -> Called
+fn called(voice: &[u8], sheet: &[u8]) -> Result<Summary, Refusal>
     ensures { result ≡ (planned_of voice.now sheet.now program_settings program_buffers).answer }
 {
     let mut index = [0u8; 8192];
@@ -50,22 +48,20 @@ fn put_lines(report: &[u8], out: &mut [u8]) -> usize
     ensures upper_bound { result ≤ 30720 }
 {
     let mut end = 0;
-    let mut i = 0;
-    while i < report.len() / 16 {
+    for i in 0..report.len() / 16 {
         let at = 4 * i;
         let pair = base::bytes::u32_at(report, at);
         let half = base::bytes::u32_at(report, at + 1);
         let first = base::bytes::u32_at(report, at + 2);
         let size = base::bytes::u32_at(report, at + 3);
-        i += 1;
-        end = lines::put_report_line(i as u32, pair, half, first, size, out, end);
+        end = lines::put_report_line(i as u32 + 1, pair, half, first, size, out, end);
     }
     end
 }
 
 // The report of a call that is not refused, put to the front of `out`.
 fn put_report(voice: &[u8], sheet: &[u8], out: &mut [u8]) -> usize
-    requires { (call_refusal voice.now sheet.now program_settings program_buffers ≡ none) × (30720 ≤ length out.old) }
+    requires { (call_refusal voice.now sheet.now program_settings program_buffers ≡ None) × (30720 ≤ length out.old) }
     ensures puts { Puts out.old 0
         (lines_text 1 (report_of (voice_of voice.now) (sheet_of sheet.now) program_settings))
         out.new result }
@@ -73,7 +69,7 @@ fn put_report(voice: &[u8], sheet: &[u8], out: &mut [u8]) -> usize
 {
     let mut report = [0u8; 16384];
     let settings = transcript::program_settings();
-    let Reported::Made(count) = reporting::report(voice, sheet, settings, &mut report) else {
+    let Ok(count) = reporting::report(voice, sheet, settings, &mut report) else {
         return 0;
     };
     let n = 16 * count;
@@ -87,11 +83,11 @@ fn put_text(voice: &[u8], sheet: &[u8], out: &mut [u8]) -> usize
     ensures prefix_len { IsPrefixLen result out.new }
 {
     if transcript::is_too_long(voice, sheet) {
-        return lines::put_refused(refusal::number(Refusal::ShortBuffer), out);
+        return lines::put_refused(u32::from(Refusal::ShortBuffer), out);
     }
     match called(voice, sheet) {
-        Called::Spoken(_) => put_report(voice, sheet, out),
-        Called::Refused(cause) => lines::put_refused(refusal::number(cause), out),
+        Ok(_) => put_report(voice, sheet, out),
+        Err(cause) => lines::put_refused(u32::from(cause), out),
     }
 }
 

@@ -1,8 +1,8 @@
 -- The report of a join, and of a call that its check passed.
+use Rattle.std.specs.Prelude.{None}
 use mathlib.Core.Path.{◌≡◌, refl, sym, ap, subst, ◌∙◌}
 use mathlib.Core.Bool.{Bool, true}
 use mathlib.Core.List.{List, [], ◌∷◌, ◌++◌}
-use mathlib.Core.Option.{none}
 use Prim.Native.Nat.{ℕ, zero, suc, ◌+◌, ◌-◌, ◌*◌, ◌≤◌, ◌<◌}
 use native.Mathlib.Omega.{arith}
 use borrow.Author.Tests.{le-ltb}
@@ -239,7 +239,7 @@ module _ (file sheet : List ℕ) (o : Settings) (f : Fit) (p : Passes file sheet
   none-reported z d =
       sym (ap (λ (ls : List Line). over (flat line_bytes ls) d) (no_lines (report_of (voice_of file) (sheet_of sheet) o) (sym counted ∙ z)) ∙ over-nil d)
 
-  plan-passed : (plan_of (voice_of file) (sheet_of sheet) o).refusal ≡ none
+  plan-passed : (plan_of (voice_of file) (sheet_of sheet) o).refusal ≡ None
   plan-passed = (passed-all file sheet o p.passed).plan
 
   module _ (some : 0 < count) where

@@ -1,8 +1,8 @@
 -- What holds of every report: a line a period, sizes that add up, firsts that are the sums of the sizes before, pairs that never fall.
+use Rattle.std.specs.Prelude.{None, Option}
 use mathlib.Core.Path.{◌≡◌, refl, sym, ap, subst, ◌∙◌}
 use mathlib.Core.Bool.{Bool, true, false}
 use mathlib.Core.List.{List, [], ◌∷◌, ◌++◌, map, map-append}
-use mathlib.Core.Option.{Option, none}
 use Prim.Native.Nat.{ℕ, zero, suc, ◌+◌, ◌-◌, ◌*◌, ◌≤◌, ◌<◌}
 use native.Mathlib.Omega.{arith}
 use lib.Dec.{ltb}
@@ -239,7 +239,7 @@ module _ (v : Voice) (s : Sheet) (o : Settings) where
         }
 
 -- every report of a voice that opens
-pub report-of : (file : List ℕ) (s : Sheet) (o : Settings) → opening_refusal file ≡ none → HoldsOf (voice_of file) s o
+pub report-of : (file : List ℕ) (s : Sheet) (o : Settings) → opening_refusal file ≡ None → HoldsOf (voice_of file) s o
 report-of file s o e = let r = open-rate file e in report-holds (voice_of file) s o r.0 r.1
 
 -- ---- bounds of its numbers
@@ -255,7 +255,7 @@ ends_by k (l ∷ ls) f =
     let n : k + l.size + total (line_sizes ls) ≡ k + (l.size + total (line_sizes ls)) = omega arith in
     bounds.cons {x = l} (omega arith) (subst (λ (m : ℕ). Each (EndsBy m) ls) n (ends_by (k + l.size) ls f.1))
 
-pub report-ends : (file : List ℕ) (s : Sheet) (o : Settings) → opening_refusal file ≡ none
+pub report-ends : (file : List ℕ) (s : Sheet) (o : Settings) → opening_refusal file ≡ None
     → Each (EndsBy (length (excitation_of (periods_taken (voice_of file) s o)))) (report_of (voice_of file) s o)
 report-ends file s o e =
     let v = voice_of file in

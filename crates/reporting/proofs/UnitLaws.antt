@@ -1,8 +1,8 @@
 -- The loop over units that stores their lines.
+use Rattle.std.specs.Prelude.{None}
 use mathlib.Core.Path.{◌≡◌, refl, sym, ap, subst, ◌∙◌}
 use mathlib.Core.Bool.{Bool}
 use mathlib.Core.List.{List, [], ◌∷◌}
-use mathlib.Core.Option.{none}
 use Prim.Native.Nat.{ℕ, suc, ◌+◌, ◌*◌, ◌^◌, ◌≤◌, ◌<◌}
 use native.Mathlib.Omega.{arith}
 use lib.ListN.{length, drop}
@@ -44,7 +44,7 @@ marks-many u mark (m ∷ ms) = ap suc (marks-many u m ms)
 
 -- the lines of the units us are still to store; `all` is what will be there then
 pub record UnitsReporting (v : Voice) (natural : Bool) (us : List Unit) (end count : ℕ) (at : Reached) (lines all : List ℕ) : Type 0 where
-  pub low : end_refusal (join_units natural v end us) ≡ none
+  pub low : end_refusal (join_units natural v end us) ≡ None
   pub end_low : end ≤ limit
   pub numbers : Each LowNumbers us
   pub long : length lines ≡ 16 * count
@@ -95,7 +95,7 @@ module _ (v : Voice) (natural : Bool) (us : List Unit) (end count : ℕ) (at : R
       ap (join_units natural v end) e ∙ join_more natural v end u rest
       ∙ ap (λ (y : Unit). y ∷ join_units natural v y.target_end rest) (sym q)
 
-  lows : (x.target_end ≤ limit) × (end_refusal after ≡ none)
+  lows : (x.target_end ≤ limit) × (end_refusal after ≡ None)
   lows = low_first x after (sym (ap end_refusal join_is) ∙ k.low)
 
   numbers-are : LowNumbers u × Each LowNumbers rest

@@ -1,6 +1,5 @@
 -- Document 02, A2: 'A period report for the marking program'.
-use Rattle.std.specs.Prelude.{Bool, List, [], ◌∷◌, ℕ, ◌-◌, ◌*◌, leb, length}
-use Rattle.std.proofs.Math.Option.{Option, none, some}
+use Rattle.std.specs.Prelude.{Bool, List, [], ◌∷◌, ℕ, ◌-◌, ◌*◌, leb, length, Err, None, Ok, Option, Result, Some}
 use Rattle.base.specs.Choice.{pick}
 use Rattle.base.specs.Lists.{or_next}
 use Rattle.base.specs.Buffers.{flat, unless_refused}
@@ -14,8 +13,6 @@ use Rattle.excitation.specs.Shares.{Share, shares}
 use Rattle.call.specs.declared.Settings.{Settings}
 use Rattle.call.specs.Call.{plan_of, is_simple}
 use Rattle.call.specs.Buffers.{check_refusal}
-use Rattle.reporting.specs.declared.Reported.{Reported}
-use Rattle.reporting.specs.declared.Reported.TheVariants.{Made, Refused}
 
 -- ---- the report
 
@@ -55,18 +52,18 @@ report_bytes v s o = flat line_bytes (report_of v s o)
 
 -- 13 where n bytes have no room for the lines
 abbrev pub short_lines : ℕ → ℕ → Option Refusal
-short_lines periods n = pick (leb (16 * periods) n) none (some ShortBuffer)
+short_lines periods n = pick (leb (16 * periods) n) None (Some ShortBuffer)
 
 -- 1 to 12, 16 and 17 as the call has them, then 13 for a buffer of n bytes
 unfoldable pub refusal_of_report : List ℕ → List ℕ → Settings → ℕ → Option Refusal
 refusal_of_report file sheet o n = or_next (check_refusal file sheet o) (short_lines (length (report_of (voice_of file) (sheet_of sheet) o)) n)
 
 -- why it is refused, or how many lines there are
-abbrev pub answer_reported : ℕ → Option Refusal → Reported
-answer_reported count none = Made count
-answer_reported count (some r) = Refused r
+abbrev pub answer_reported : ℕ → Option Refusal → Result ℕ Refusal
+answer_reported count None = Ok count
+answer_reported count (Some r) = Err r
 
-unfoldable pub reported_of : List ℕ → List ℕ → Settings → ℕ → Reported
+unfoldable pub reported_of : List ℕ → List ℕ → Settings → ℕ → Result ℕ Refusal
 reported_of file sheet o n = answer_reported (length (report_of (voice_of file) (sheet_of sheet) o)) (refusal_of_report file sheet o n)
 
 -- every byte of the lines afterwards

@@ -1,7 +1,6 @@
 -- Inner: What storing a report's lines asks, and what it leaves. The marks taken stand in the last quarter of the lines until a line is
 -- stored over them.
-use Rattle.std.specs.Prelude.{◌≡◌, Bool, List, ℕ, ◌+◌, ◌*◌, ◌^◌, ◌≤◌, ◌<◌, length, take, drop}
-use Rattle.std.proofs.Math.Option.{none}
+use Rattle.std.specs.Prelude.{◌≡◌, Bool, List, ℕ, ◌+◌, ◌*◌, ◌^◌, ◌≤◌, ◌<◌, length, take, drop, None}
 use Rattle.std.proofs.lemmas.List.Edits.{sets}
 use Rattle.base.specs.Buffers.{flat}
 use Rattle.base.specs.Bytes.{elements}
@@ -59,7 +58,7 @@ units_report natural file sheet by ms =
 pub record CanReportUnits (natural : Bool) (file index sheet : List ℕ) (by : Selection) (count : ℕ) (lines : List ℕ) : Type 0 where
   pub selects : CanSelect file index sheet by
   pub some : 0 < by.places.segments.count
-  pub low : end_refusal (join_units natural (voice_of file) 0 (selected file sheet by)) ≡ none
+  pub low : end_refusal (join_units natural (voice_of file) 0 (selected file sheet by)) ≡ None
   pub long : length lines ≡ 16 * count
   pub rising : Rising 0 (marks_ahead count lines 0)
 
@@ -71,7 +70,7 @@ join_report join file sheet by = lines_of (is_simple join) (planned join file sh
 -- two segments or more, marks that are not refused, and n bytes for all of its lines, of which there is one at least
 pub record CanReportJoin (join : JoinType) (file sheet : List ℕ) (by : Selection) (count n : ℕ) : Type 0 where
   pub two : 2 ≤ by.places.segments.count
-  pub spoken : (planned join file sheet by).refusal ≡ none
+  pub spoken : (planned join file sheet by).refusal ≡ None
   pub counted : count ≡ length (join_report join file sheet by)
   pub some : 0 < count
   pub long : n ≡ 16 * count

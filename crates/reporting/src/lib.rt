@@ -2,7 +2,7 @@
 // mark, its first sample and its size.
 #![tactic(auto)]
 
-ghost use Rattle.std.specs.Prelude.{◌≡◌, ◌*◌, ◌+◌, ◌≤◌, length};
+ghost use Rattle.std.specs.Prelude.{◌≡◌, ◌*◌, ◌+◌, ◌≤◌, length, Ok};
 ghost use Rattle.std.proofs.lemmas.List.Edits.{sets};
 ghost use Rattle.base.specs.Buffers.{over, flat};
 ghost use Rattle.voice.specs.Voice.{voice_of};
@@ -15,17 +15,9 @@ ghost use Rattle.reporting.specs.Report.{line_bytes, report_bytes, reported_of, 
 ghost use Rattle.reporting.specs.Reporting.{marks_ahead, CanReport, Reports, units_report, CanReportUnits, join_report, CanReportJoin};
 
 use call::{JoinType, Settings};
-use checking::{Checked, Fit};
+use checking::Fit;
 use refusal::Refusal;
-use sheet::SheetAnswer;
 use units::{Held, Selection, Unit};
-
-// How many lines a report has, or why it is refused.
-#[derive(Clone, Copy)]
-pub enum Reported {
-    Refused(Refusal),
-    Made(usize),
-}
 
 // How far the marks of a call are reported: how many of them, and the last one, 0 before the first.
 #[derive(Clone, Copy)]
@@ -54,24 +46,21 @@ fn report_unit(natural: bool, unit: Unit, count: usize, at: Reached, lines: &mut
 {
     let from = 12 * count;
     let end = taking::share_end(natural, unit, &lines[from..], at.taken);
-    let mut to = at;
-    while to.taken < end {
-        let mark = base::bytes::u32_at(lines, 3 * count + to.taken);
-        let first = to.mark as u32;
+    let mut mark = at.mark;
+    for i in at.taken..end {
+        let next = base::bytes::u32_at(lines, 3 * count + i);
+        let first = mark as u32;
         put_line(
             unit.pair as u32,
             unit.half as u32,
             first,
-            mark - first,
-            to.taken,
+            next - first,
+            i,
             lines,
         );
-        to = Reached {
-            taken: to.taken + 1,
-            mark: mark as usize,
-        };
+        mark = next as usize;
     }
-    to
+    Reached { taken: end, mark }
 }
 
 // Stores the lines of all units, by the marks at the end of the lines; in the simple join by where the
@@ -138,19 +127,12 @@ fn report_found(
     lines: &mut [u8],
 )
     requires { (IsOpen file.now by.voice × (8 ≤ length index.old)) ×
-        ((answer_in (sheet_places sheet.now) ≡ SheetAnswer.Read by.places) ×
+        ((answer_in (sheet_places sheet.now) ≡ Ok by.places) ×
         CanReportJoin join file.now sheet.now by count (length lines.old)) }
     ensures { lines.new ≡ flat line_bytes (join_report join file.now sheet.now by) }
 {
-    let voice = by.voice;
-    let places = by.places;
-    let held = units::holding::hold(file, voice, index);
-    let found_by = Selection {
-        voice: voice,
-        held: held,
-        places: places,
-        fold: by.fold,
-    };
+    let held = units::holding::hold(file, by.voice, index);
+    let found_by = Selection { held, ..by };
     report_joined(join, file, index, sheet, found_by, count, lines)
 }
 
@@ -168,52 +150,57 @@ fn report_checked(
     ensures { lines.new ≡
         over (report_bytes (voice_of file.now) (sheet_of sheet.now) settings) lines.old }
 {
-    let need = fit.need;
-    let count = need.periods;
+    let count = fit.need.periods;
     if count == 0 {
         return;
     }
-    let voice = fit.voice;
-    let places = fit.places;
-    let join = settings.join;
     let by = Selection {
-        voice: voice,
+        voice: fit.voice,
         held: Held::Nothing,
-        places: places,
+        places: fit.places,
         fold: settings.fold,
     };
     let n = 16 * count;
-    report_found(join, file, sheet, by, count, index, &mut lines[..n])
+    report_found(
+        settings.join,
+        file,
+        sheet,
+        by,
+        count,
+        index,
+        &mut lines[..n],
+    )
 }
 
-// The report of a call, with a lent index buffer.
+// The report of a call, with a lent index buffer. Answers how many lines it has.
 fn report_in(
     voice: &[u8],
     sheet: &[u8],
     settings: Settings,
     index: &mut [u8],
     lines: &mut [u8],
-) -> Reported
+) -> Result<usize, Refusal>
     requires { 8 ≤ length index.old }
     ensures value { result ≡ reported_of voice.now sheet.now settings (length lines.old) }
     ensures lines_after { lines.new ≡ lines_left voice.now sheet.now settings lines.old }
 {
-    match checking::check_in(voice, sheet, settings, index) {
-        Checked::Refused(cause) => Reported::Refused(cause),
-        Checked::Passed(fit) => {
-            let need = fit.need;
-            if lines.len() / 16 < need.periods {
-                return Reported::Refused(Refusal::ShortBuffer);
-            }
-            report_checked(voice, sheet, settings, fit, index, lines);
-            Reported::Made(need.periods)
-        }
+    let fit = checking::check_in(voice, sheet, settings, index)?;
+    let need = fit.need;
+    if lines.len() / 16 < need.periods {
+        return Err(Refusal::ShortBuffer);
     }
+    report_checked(voice, sheet, settings, fit, index, lines);
+    Ok(need.periods)
 }
 
-// The report of a call, 16 bytes a line at the front of `lines`: pair, half, first sample and size. A
-// refusal leaves them as they were. The check and the report share one index buffer.
-pub fn report(voice: &[u8], sheet: &[u8], settings: Settings, lines: &mut [u8]) -> Reported
+// The report of a call, 16 bytes a line at the front of `lines`: pair, half, first sample and size. Answers
+// how many lines there are. A refusal leaves them as they were. The check and the report share one index buffer.
+pub fn report(
+    voice: &[u8],
+    sheet: &[u8],
+    settings: Settings,
+    lines: &mut [u8],
+) -> Result<usize, Refusal>
     ensures value { result ≡ reported_of voice.now sheet.now settings (length lines.old) }
     ensures lines_after { lines.new ≡ lines_left voice.now sheet.now settings lines.old }
 {

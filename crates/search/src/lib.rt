@@ -10,33 +10,22 @@ ghost use Rattle.voice.specs.Voice as voices;
 ghost use Rattle.voice.specs.Opening.{distinct};
 ghost use Rattle.index.specs.Index.{Small, Filled, periods_of, found_of, first_of};
 
-use index::{EntryPeriods, FoundEntry};
-use text::Order;
-
-// What the `count` entries from a place on have under a name.
-fn lookup_from(entries: &[u8], from: usize, count: usize, name: &[u8]) -> FoundEntry
-    requires { (entries_from count entries.now from).whole ≡ true }
-    ensures { result ≡ found_of
-        (voices.lookup name.now (entries_from count entries.now from).list) }
-{
-    let mut at = from;
-    let mut left = count;
-    while 0 < left {
-        if text::same(index::name_at(entries, at), name) {
-            return FoundEntry::Found(index::periods_at(entries, at));
-        }
-        at = index::next_entry(entries, at);
-        left -= 1;
-    }
-    FoundEntry::Missing
-}
+use index::EntryPeriods;
+use std::cmp::Ordering;
 
 // What the index has under a name, without the sorted index.
-pub fn lookup(entries: &[u8], count: usize, name: &[u8]) -> FoundEntry
+pub fn lookup(entries: &[u8], count: usize, name: &[u8]) -> Option<EntryPeriods>
     requires { (entries_from count entries.now 0).whole ≡ true }
     ensures { result ≡ found_of (voices.lookup name.now (entries_from count entries.now 0).list) }
 {
-    lookup_from(entries, 0, count, name)
+    let mut at = 0;
+    for _ in 0..count {
+        if text::same(index::name_at(entries, at), name) {
+            return Some(index::periods_at(entries, at));
+        }
+        at = index::next_entry(entries, at);
+    }
+    None
 }
 
 // The place of that of two entries which stands first: b's, where the names are the same.
@@ -46,9 +35,10 @@ fn earlier(entries: &[u8], a: usize, b: usize) -> usize
     ensures { result ≡ pick (before (entry_at entries.now a).name (entry_at entries.now b).name) a b }
 {
     if index::stands_before(entries, a, b) {
-        return a;
+        a
+    } else {
+        b
     }
-    b
 }
 
 // The first entry in name order, without the sorted index.
@@ -58,11 +48,9 @@ pub fn smallest(entries: &[u8], count: usize) -> EntryPeriods
 {
     let mut best = 0;
     let mut at = index::next_entry(entries, 0);
-    let mut left = count - 1;
-    while 0 < left {
+    for _ in 1..count {
         best = earlier(entries, best, at);
         at = index::next_entry(entries, at);
-        left -= 1;
     }
     index::periods_at(entries, best)
 }
@@ -86,7 +74,13 @@ pub fn first_sorted(entries: &[u8], count: usize, base: usize, index: &[u8]) -> 
 }
 
 // What the index has under a name, by a search that halves the filled index.
-pub fn find(entries: &[u8], count: usize, base: usize, index: &[u8], name: &[u8]) -> FoundEntry
+pub fn find(
+    entries: &[u8],
+    count: usize,
+    base: usize,
+    index: &[u8],
+    name: &[u8],
+) -> Option<EntryPeriods>
     requires { Filled entries.now count base index.now ×
         (distinct (entries_from count entries.now 0).list ≡ true) }
     ensures { result ≡ found_of (voices.lookup name.now (entries_from count entries.now 0).list) }
@@ -97,10 +91,10 @@ pub fn find(entries: &[u8], count: usize, base: usize, index: &[u8], name: &[u8]
         let mid = lo + (hi - lo) / 2;
         let at = sorted_place(entries, count, base, index, mid);
         match text::compare(index::name_at(entries, at), name) {
-            Order::Before => lo = mid + 1,
-            Order::Same => return FoundEntry::Found(index::periods_at(entries, at)),
-            Order::After => hi = mid,
+            Ordering::Less => lo = mid + 1,
+            Ordering::Equal => return Some(index::periods_at(entries, at)),
+            Ordering::Greater => hi = mid,
         }
     }
-    FoundEntry::Missing
+    None
 }

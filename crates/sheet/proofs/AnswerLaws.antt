@@ -1,13 +1,20 @@
 -- What is said, made to agree with a reading, and passed on from one reading to the next.
-use Rattle.std.proofs.Common.{◌≡◌, ℕ, ◌+◌, ◌<◌, ◌≤◌, Bool, true, false, List, ◌∷◌, length, get_or, drop, sym, ap, subst, add-one, drop-cons}
+use Rattle.std.specs.Prelude.{Result, IsErrAnd}
+use Rattle.std.proofs.Common.{◌∙◌, ◌≡◌, ℕ, ◌+◌, ◌<◌, ◌≤◌, Bool, true, false, List, ◌∷◌, length, get_or, drop, sym, ap, subst, add-one, drop-cons}
+use Rattle.std.proofs.lemmas.Result.{err_from_is_err_and}
 use Rattle.refusal.specs.declared.Refusal.{Refusal}
 use Rattle.refusal.specs.declared.Refusal.TheVariants.{BadSheet}
 use Rattle.sheet.specs.Sheet.{Got, fails, gets, ◌and_then◌, malformed_if}
-use Rattle.sheet.specs.Answers.{Said, refuses, reads, Agrees}
+use Rattle.sheet.specs.Answers.{Said, refuses, reads, Agrees, says}
+use Rattle.sheet.specs.declared.Read.{Read}
 
 -- the bytes from a place on
 pub from_place : (s : List ℕ) (at : ℕ) → at < length s → drop at s ≡ get_or s at 0 ∷ drop (at + 1) s
 from_place s at h = rw (add-one at) (drop-cons s at 0 h)
+
+-- and with the byte there given
+pub from_byte : (s : List ℕ) (at b : ℕ) → (at < length s) × ((d : ℕ) → b ≡ get_or s at d) → drop at s ≡ b ∷ drop (at + 1) s
+from_byte s at b h = from_place s at h.0 ∙ ap (λ (k : ℕ). k ∷ drop (at + 1) s) (sym (h.1 0))
 
 module _ {A B : Type 0} {sheet : List ℕ} {meaning : A → B} {P : A → Type 0} where
   pub refused : {r : Refusal} {g : Got B} → g ≡ fails r → Agrees sheet meaning P (refuses r) g
@@ -20,8 +27,10 @@ module _ {A B : Type 0} {sheet : List ℕ} {meaning : A → B} {P : A → Type 0
   pub same-reading : {says : Said A} {g h : Got B} → g ≡ h → Agrees sheet meaning P says h → Agrees sheet meaning P says g
   same-reading {says} e i = subst (Agrees sheet meaning P says) (sym e) i
 
-  pub same-says : {says says' : Said A} {g : Got B} → says' ≡ says → Agrees sheet meaning P says g → Agrees sheet meaning P says' g
-  same-says {g = g} e i = subst (λ (x : Said A). Agrees sheet meaning P x g) (sym e) i
+  -- what a `?` answers
+  pub exit : {r : Refusal} {g : Got B} (answer : Result (Read A) Refusal) → IsErrAnd answer (λ e. e ≡ r) → Agrees sheet meaning P (refuses r) g
+      → Agrees sheet meaning P (says answer) g
+  exit answer h i = let p = err_from_is_err_and answer h in rw (p.1, p.2) i
 
   -- 8 where a test passes
   pub test-passes : {t : Bool} (g : Got B) → t ≡ true → Agrees sheet meaning P (refuses BadSheet) (malformed_if t g)
@@ -31,23 +40,23 @@ module _ {A B : Type 0} {sheet : List ℕ} {meaning : A → B} {P : A → Type 0
   test-fails {g = g} e i = same-reading (ap (λ (u : Bool). malformed_if u g) e) i
 
 -- after an answer the reading goes on, or stops where it is refused
-module _ {A B D : Type 0} {sheet : List ℕ} {meaning : A → B} {P : A → Type 0} {says : Said A} {g : Got B} (i : Agrees sheet meaning P says g) (f : B → List ℕ → Got D) where
-  pub then-stops : {r : Refusal} → says ≡ refuses r → (g and_then f) ≡ fails r
+module _ {A B D : Type 0} {sheet : List ℕ} {meaning : A → B} {P : A → Type 0} {g : Got B} (f : B → List ℕ → Got D) where
+  pub then-stops : {r : Refusal} → Agrees sheet meaning P (refuses r) g → (g and_then f) ≡ fails r
   unfolding ◌and_then◌
-  then-stops e = ap (λ (x : Got B). x and_then f) (sym (rw e at i).same)
+  then-stops i = ap (λ (x : Got B). x and_then f) (sym i.same)
 
-  pub then-on : {a : A} {next : ℕ} → says ≡ reads a next → (g and_then f) ≡ f (meaning a) (drop next sheet)
+  pub then-on : {a : A} {next : ℕ} → Agrees sheet meaning P (reads a next) g → (g and_then f) ≡ f (meaning a) (drop next sheet)
   unfolding ◌and_then◌
-  then-on e = ap (λ (x : Got B). x and_then f) (sym (rw e at i).same)
+  then-on i = ap (λ (x : Got B). x and_then f) (sym i.same)
 
   module _ {C : Type 0} {meaning' : C → D} {Q : C → Type 0} where
-    pub stops : {r : Refusal} → says ≡ refuses r → Agrees sheet meaning' Q (refuses r) (g and_then f)
-    stops e = refused (then-stops e)
+    pub stops : {r : Refusal} → Agrees sheet meaning P (refuses r) g → Agrees sheet meaning' Q (refuses r) (g and_then f)
+    stops i = refused (then-stops i)
 
-    pub goes_on : {a : A} {next : ℕ} {says' : Said C} → says ≡ reads a next → Agrees sheet meaning' Q says' (f (meaning a) (drop next sheet)) → Agrees sheet meaning' Q says' (g and_then f)
-    goes_on e j = same-reading (then-on e) j
+    pub exits : {r : Refusal} (answer : Result (Read C) Refusal) → IsErrAnd answer (λ e. e ≡ r) → Agrees sheet meaning P (refuses r) g
+        → Agrees sheet meaning' Q (says answer) (g and_then f)
+    exits answer h i = exit answer h (stops i)
 
--- what holds of what was read
-pub read-within : {A B : Type 0} {sheet : List ℕ} {meaning : A → B} {P : A → Type 0} {says : Said A} {g : Got B} {a : A} {next : ℕ}
-    → Agrees sheet meaning P says g → says ≡ reads a next → (next ≤ length sheet) × P a
-read-within i e = (rw e at i).within
+    pub goes_on : {a : A} {next : ℕ} {said : Said C} → Agrees sheet meaning P (reads a next) g → Agrees sheet meaning' Q said (f (meaning a) (drop next sheet))
+        → Agrees sheet meaning' Q said (g and_then f)
+    goes_on i j = same-reading (then-on i) j

@@ -1,5 +1,5 @@
 -- The walk from the first segment to the one with a number.
-use Rattle.std.proofs.Common.{◌≡◌, ℕ, zero, suc, ◌+◌, ◌-◌, ◌<◌, ◌≤◌, true, List, [], ◌∷◌, length, drop, sym, refl, ap, ◌∙◌, subst, arith}
+use Rattle.std.proofs.Common.{◌⊎◌, inl, inr, ◌≡◌, ℕ, zero, suc, ◌+◌, ◌-◌, ◌<◌, ◌≤◌, true, List, [], ◌∷◌, length, drop, sym, refl, ap, ◌∙◌, subst, arith}
 use Rattle.sheet.specs.Sheet.{SegmentRead, segment, sheet_of}
 use Rattle.sheet.specs.Answers.{reads, bytes_at, segment_read, SegmentSaid}
 use Rattle.sheet.specs.Places.{is_read}
@@ -9,12 +9,12 @@ use Rattle.sheet.specs.declared.Places.{Places}
 use Rattle.sheet.proofs.WalkLaws.{Ahead, Step, ahead-some, ahead_step, ahead-length}
 use Rattle.sheet.proofs.ReadLaws.{SheetAhead}
 
-pub name-none : (ss : List SegmentRead) (n : ℕ) → n ≡ 0 → name_of ss n ≡ []
+name-none : (ss : List SegmentRead) (n : ℕ) → n ≡ 0 → name_of ss n ≡ []
 unfolding name_of
 name-none ss zero e = refl
 name-none ss (suc n) e = absurd (omega arith)
 
-pub name-past : (ss : List SegmentRead) (n : ℕ) → length ss < n → name_of ss n ≡ []
+name-past : (ss : List SegmentRead) (n : ℕ) → length ss < n → name_of ss n ≡ []
 unfolding name_of
 name-past ss zero h = absurd (omega arith)
 name-past [] (suc n) h = refl
@@ -45,14 +45,18 @@ module _ (sheet : List ℕ) (count number : ℕ) where
     step : 0 < left → Step (segment count) sheet (count - number + left) next (segment_read sheet s) g.items
     step h = ahead_step (segment count) sheet (count - number + left) at g.items s next (λ e. omega arith) g.ahead i
 
-    pub going_on : 1 < left → Going next (left - 1)
-    going_on h =
+    pub going_on : 1 < left → (left' : ℕ) → left' ≡ left - 1 → Going next left'
+    going_on h left' l =
         let t = step (omega arith) in
-        let e : count - number + left - 1 ≡ count - number + (left - 1) = omega arith in
+        let e : count - number + left - 1 ≡ count - number + left' = omega arith in
         record {
           items = t.items;
           ahead = subst (λ (k : ℕ). Ahead (segment count) sheet k next t.items) e t.ahead;
-          name = sym (name-next (segment_read sheet s) t.items left h) ∙ ap (λ (xs : List SegmentRead). name_of xs left) (sym t.whole) ∙ g.name;
+          name =
+              ap (name_of t.items) l
+              ∙ sym (name-next (segment_read sheet s) t.items left h)
+              ∙ ap (λ (xs : List SegmentRead). name_of xs left) (sym t.whole)
+              ∙ g.name;
         }
 
     pub going-here : left ≡ 1 → bytes_at sheet s.name ≡ name_of (sheet_of sheet).segments number
@@ -61,17 +65,19 @@ module _ (sheet : List ℕ) (count number : ℕ) where
         sym (name-first (segment_read sheet s) t.items left e) ∙ ap (λ (xs : List SegmentRead). name_of xs left) (sym t.whole) ∙ g.name
 
 module _ (sheet : List ℕ) (p : Places) (r : SheetAhead sheet p) where
-  pub going-first : (number : ℕ) → number ≤ p.segments.count → Going sheet p.segments.count number p.segments.at number
-  going-first number h =
+  pub going-first : (number : ℕ) → number ≤ p.segments.count → (left : ℕ) → left ≡ number → Going sheet p.segments.count number p.segments.at left
+  going-first number h left l =
       let c = p.segments.count in
-      let e : c ≡ c - number + number = omega arith in
+      let e : c ≡ c - number + left = omega arith in
       record {
         items = (sheet_of sheet).segments;
         ahead = subst (λ (k : ℕ). Ahead (segment c) sheet k p.segments.at (sheet_of sheet).segments) e r.segments;
-        name = refl;
+        name = ap (name_of (sheet_of sheet).segments) l;
       }
 
-  pub name-above : (number : ℕ) → p.segments.count < number → name_of (sheet_of sheet).segments number ≡ []
-  name-above number h =
+  -- no segment has the number
+  pub name-nowhere : (number : ℕ) → (number ≡ 0) ⊎ ((number ≡ 0 → ⊥) × (p.segments.count < number)) → name_of (sheet_of sheet).segments number ≡ []
+  name-nowhere number (inl e) = name-none (sheet_of sheet).segments number e
+  name-nowhere number (inr h) =
       let l = ahead-length (segment p.segments.count) sheet p.segments.count p.segments.at (sheet_of sheet).segments r.segments in
       name-past (sheet_of sheet).segments number (omega arith)

@@ -3,6 +3,7 @@ pub mod SheetLaws
 pub mod AnswerLaws
 pub mod NumberLaws
 pub mod NameLaws
+pub mod FiniteLaws
 pub mod ValueLaws
 pub mod ItemLaws
 pub mod PlaceLaws

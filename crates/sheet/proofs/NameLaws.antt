@@ -1,34 +1,15 @@
--- Names: their bytes one at a time, and the part of the sheet that is one.
-use Rattle.std.proofs.Common.{◌≡◌, ℕ, ◌+◌, ◌-◌, ◌<◌, ◌≤◌, Bool, true, false, not, ◌&&◌, ◌||◌, ltb, leb, List, length, get_or, take, drop, sym, refl, ap, ◌∙◌, arith, length-drop, drop_of_length-le, drop-drop, le-ltb, lt-ltb, le-leb}
+-- Names: the part of the sheet that is one.
+use Rattle.std.specs.Prelude.{Err, Ok, Result}
+use Rattle.base.specs.declared.Span.{Span}
+use Rattle.refusal.specs.declared.Refusal.{Refusal}
+use Rattle.std.proofs.Common.{◌≡◌, ℕ, ◌+◌, ◌<◌, ◌≤◌, Bool, true, false, not, ◌||◌, ltb, List, length, take, drop, sym, refl, ap, ◌∙◌, arith, length-drop, drop-drop, le-ltb, lt-ltb}
+use Rattle.std.specs.List.{slice_range}
 use native.Mathlib.Nat.{add-sub_cancel_left}
-use borrow.Author.Tests.{lt-leb}
 use Rattle.refusal.specs.declared.Refusal.TheVariants.{BadSheet}
 use Rattle.sheet.specs.Sheet.{Got, gets, malformed_if, ◌and_then◌, number, printable, name}
 use Rattle.sheet.specs.Answers.{NameIs}
-use Rattle.sheet.specs.declared.GotName.{GotName}
-use Rattle.sheet.specs.declared.GotName.TheVariants.{Refused, Read}
-use Rattle.sheet.proofs.AnswerLaws.{from_place, read, test-passes, test-fails}
-
-module _ (bytes : List ℕ) (i : ℕ) where
-  abbrev b : ℕ
-  b = get_or bytes i 0
-
-  one_more : i < length bytes → printable (drop i bytes) ≡ ((leb 33 b && leb b 126) && printable (drop (i + 1) bytes))
-  unfolding printable
-  one_more h = rw (from_place bytes i h)
-
-  pub printable-low : i < length bytes → b < 33 → printable (drop i bytes) ≡ false
-  printable-low h l = let t = lt-leb 33 b l in one_more h ∙ rw t
-
-  pub printable-high : i < length bytes → 33 ≤ b → 126 < b → printable (drop i bytes) ≡ false
-  printable-high h l m = let t = le-leb 33 b l in let u = lt-leb b 126 m in one_more h ∙ rw (t, u)
-
-  pub printable-more : i < length bytes → 33 ≤ b → b ≤ 126 → printable (drop i bytes) ≡ printable (drop (i + 1) bytes)
-  printable-more h l m = let t = le-leb 33 b l in let u = le-leb b 126 m in one_more h ∙ rw (t, u)
-
-  pub printable-done : length bytes ≤ i → printable (drop i bytes) ≡ true
-  unfolding printable
-  printable-done h = rw (drop_of_length-le bytes h)
+use Rattle.sheet.specs.declared.Read.{Read}
+use Rattle.sheet.proofs.AnswerLaws.{read, test-passes, test-fails}
 
 -- ---- after the length n
 
@@ -46,40 +27,36 @@ module _ (sheet : List ℕ) (from n : ℕ) where
   abbrev r : List ℕ
   r = drop from sheet
 
-  abbrev pub Is : GotName → Type 0
+  abbrev pub Is : Result (Read Span) Refusal → Type 0
   Is x = NameIs sheet x (named n r)
 
-  -- the part of the sheet that was looked at
-  abbrev looked : List ℕ
-  looked = take (from + n - from) r
-
-  looked-is : looked ≡ take n r
+  looked-is : slice_range sheet from (from + n) ≡ take n r
   looked-is = ap (λ (k : ℕ). take k r) (add-sub_cancel_left from n)
 
-  malformed : badly n r ≡ true → Is (Refused BadSheet)
+  malformed : badly n r ≡ true → Is (Err BadSheet)
   malformed e = test-passes (gets (take n r) (drop n r)) e
 
-  pub name-long : 32 < n → Is (Refused BadSheet)
+  pub name-long : 32 < n → Is (Err BadSheet)
   name-long h = malformed (let t = lt-ltb 32 n h in rw t)
 
-  pub name-cut : n ≤ 32 → from ≤ length sheet → length sheet < from + n → Is (Refused BadSheet)
+  pub name-cut : n ≤ 32 → from ≤ length sheet → length sheet < from + n → Is (Err BadSheet)
   name-cut l h k =
       let t = le-ltb 32 n l in
       let c : length r < n = rw length-drop (omega arith) in
       let u = lt-ltb (length r) n c in
       malformed (rw (t, u))
 
-  module _ (l : n ≤ 32) (h : from + n ≤ length sheet) where
-    by_bytes : (t : Bool) → printable looked ≡ t → badly n r ≡ not t
+  module _ (l : n ≤ 32) (h : from + n ≤ length sheet) (bytes : List ℕ) (e : bytes ≡ slice_range sheet from (from + n)) where
+    by_bytes : (t : Bool) → printable bytes ≡ t → badly n r ≡ not t
     by_bytes t p =
-        let q = ap printable (sym looked-is) ∙ p in
+        let q = ap printable (sym (e ∙ looked-is)) ∙ p in
         let u = le-ltb 32 n l in
         let c : n ≤ length r = rw length-drop (omega arith) in
         let v = le-ltb (length r) n c in
         rw (u, v, q)
 
-    pub name-bad : printable looked ≡ false → Is (Refused BadSheet)
+    pub name-bad : printable bytes ≡ false → Is (Err BadSheet)
     name-bad p = malformed (by_bytes false p)
 
-    pub name-good : printable looked ≡ true → Is (Read (record { at = from; len = n }))
-    name-good p = test-fails (by_bytes true p) (read (ap (gets (take n r)) (drop-drop n from sheet)) h tt)
+    pub name-good : printable bytes ≡ true → Is (Ok (record { value = record { at = from; len = n }; next = from + n }))
+    name-good p = test-fails (by_bytes true p) (read (ap (gets (take n r)) (drop-drop n from sheet)) h h)

@@ -1,13 +1,14 @@
 -- Numbers in groups, one group at a time.
-use Rattle.std.proofs.Common.{◌≡◌, ℕ, zero, suc, ◌+◌, ◌-◌, ◌*◌, ◌^◌, ◌<◌, ◌≤◌, Bool, true, false, not, ◌&&◌, eqb, ltb, List, [], ◌∷◌, length, get_or, drop, refl, ap, ◌∙◌, pow-suc, arith, drop_of_length-le, le-ltb, lt-ltb, eq-eqb, ne_eqb}
+use Rattle.std.specs.Prelude.{Err, Ok, Result}
+use Rattle.std.proofs.Common.{◌⊎◌, inl, inr, ◌≡◌, ℕ, zero, suc, ◌+◌, ◌-◌, ◌*◌, ◌^◌, ◌<◌, ◌≤◌, Bool, true, false, not, ◌&&◌, eqb, ltb, List, [], ◌∷◌, length, get_or, drop, refl, ap, ◌∙◌, pow-suc, arith, drop_of_length-le, le-ltb, lt-ltb, eq-eqb, ne_eqb}
 use native.Mathlib.Nat.{pow-le-pow_right}
+use mathlib.Core.Bool.{and-false}
 use Rattle.refusal.specs.declared.Refusal.{Refusal}
 use Rattle.refusal.specs.declared.Refusal.TheVariants.{BadSheet}
 use Rattle.sheet.specs.Sheet.{Got, fails, gets, ◌and_then◌, malformed_if, groups}
-use Rattle.sheet.specs.Answers.{NumberIs, number_says}
-use Rattle.sheet.specs.declared.GotNumber.{GotNumber}
-use Rattle.sheet.specs.declared.GotNumber.TheVariants.{Refused, Read}
-use Rattle.sheet.proofs.AnswerLaws.{from_place, refused, read, same-reading, stops, goes_on, read-within}
+use Rattle.sheet.specs.Answers.{Said, refuses, reads, Agrees, NumberIs}
+use Rattle.sheet.specs.declared.Read.{Read}
+use Rattle.sheet.proofs.AnswerLaws.{from_place, refused, read, same-reading, stops, goes_on}
 
 -- a step of the definition, with its test given
 abbrev pub turn : Bool → ℕ → Bool → ℕ → List ℕ → Got ℕ
@@ -44,7 +45,7 @@ power-one (suc k) b n l = rw pow-suc (omega (arith, pow-le-pow_right {n = 128} (
 
 -- what is answered of k groups at most, at a place
 module _ (sheet : List ℕ) (at k : ℕ) (first : Bool) where
-  abbrev pub Is : GotNumber → Type 0
+  abbrev pub Is : Result (Read ℕ) Refusal → Type 0
   Is r = NumberIs sheet (128 ^ k) r (groups k first (drop at sheet))
 
   -- the byte there
@@ -54,15 +55,13 @@ module _ (sheet : List ℕ) (at k : ℕ) (first : Bool) where
   abbrev high : ℕ → List ℕ → Got ℕ
   high m r = gets (b - 128 + 128 * m) r
 
-  malformed : groups k first (drop at sheet) ≡ fails BadSheet → Is (Refused BadSheet)
+  malformed : groups k first (drop at sheet) ≡ fails BadSheet → Is (Err BadSheet)
   malformed e = refused e
 
-  pub groups_none : k ≡ 0 → Is (Refused BadSheet)
+  pub groups_none : (k ≡ 0) ⊎ ((k ≡ 0 → ⊥) × (length sheet ≤ at)) → Is (Err BadSheet)
   unfolding groups
-  groups_none e = malformed (ap (λ (n : ℕ). groups n first (drop at sheet)) e)
-
-  pub groups-end : length sheet ≤ at → Is (Refused BadSheet)
-  groups-end h = malformed (ap (groups k first) (drop_of_length-le sheet h) ∙ nothing k first)
+  groups_none (inl e) = malformed (ap (λ (n : ℕ). groups n first (drop at sheet)) e)
+  groups_none (inr h) = malformed (ap (groups k first) (drop_of_length-le sheet h.1) ∙ nothing k first)
 
   module _ (n : k ≡ 0 → ⊥) (h : at < length sheet) where
     by-test : (t : Bool) → ltb b 128 ≡ t → groups k first (drop at sheet) ≡ turn t (k - 1) first b (drop (at + 1) sheet)
@@ -71,28 +70,31 @@ module _ (sheet : List ℕ) (at k : ℕ) (first : Bool) where
     last : b < 128 → (t : Bool) → (not first && eqb b 0) ≡ t → groups k first (drop at sheet) ≡ malformed_if t (gets b (drop (at + 1) sheet))
     last l t e = by-test true (lt-ltb b 128 l) ∙ ap (λ (u : Bool). malformed_if u (gets b (drop (at + 1) sheet))) e
 
-    group : b < 128 → (not first && eqb b 0) ≡ false → Is (Read b (at + 1))
+    group : b < 128 → (not first && eqb b 0) ≡ false → Is (Ok (record { value = b; next = at + 1 }))
     group l e = read (last l false e) (omega arith) (power-one k b n l)
 
-    pub groups-first : first ≡ true → b < 128 → Is (Read b (at + 1))
+    pub groups-first : first ≡ true → b < 128 → Is (Ok (record { value = b; next = at + 1 }))
     groups-first e l = group l (ap (λ (t : Bool). not t && eqb b 0) e)
 
-    pub groups-last : first ≡ false → (b ≡ 0 → ⊥) → b < 128 → Is (Read b (at + 1))
-    groups-last e z l = group l (ap (λ (t : Bool). not t && eqb b 0) e ∙ ne_eqb b 0 z)
+    pub groups-last : (b ≡ 0 → ⊥) → b < 128 → Is (Ok (record { value = b; next = at + 1 }))
+    groups-last z l = group l (ap (λ (t : Bool). not first && t) (ne_eqb b 0 z) ∙ and-false (not first))
 
     -- not the shortest form
-    pub groups-zero : first ≡ false → b ≡ 0 → Is (Refused BadSheet)
+    pub groups-zero : first ≡ false → b ≡ 0 → Is (Err BadSheet)
     groups-zero e z = malformed (last (omega arith) true (ap (λ (t : Bool). not t && eqb b 0) e ∙ eq-eqb b 0 z))
 
     -- more groups follow
-    module _ (l : 128 ≤ b) (r : GotNumber) (i : NumberIs sheet (128 ^ (k - 1)) r (groups (k - 1) false (drop (at + 1) sheet))) where
+    module _ (l : 128 ≤ b) where
       follows : groups k first (drop at sheet) ≡ (groups (k - 1) false (drop (at + 1) sheet) and_then high)
       follows = by-test false (le-ltb b 128 l)
 
-      pub groups-cut : (c : Refusal) → r ≡ Refused c → Is (Refused c)
-      groups-cut c e = same-reading follows (stops i high (ap number_says e))
+      abbrev Said-next : Said ℕ → Type 0
+      Said-next said = Agrees sheet (λ m. m) (λ m. m < 128 ^ (k - 1)) said (groups (k - 1) false (drop (at + 1) sheet))
 
-      pub groups-more : (m next : ℕ) → b < 256 → r ≡ Read m next → Is (Read (b - 128 + 128 * m) next)
-      groups-more m next s e =
-          let w = read-within i (ap number_says e) in
-          same-reading follows (goes_on i high (ap number_says e) (read refl w.0 (power-more k b m n s w.1)))
+      pub groups-cut : (c : Refusal) → Said-next (refuses c) → Is (Err c)
+      groups-cut c i = same-reading follows (stops high i)
+
+      pub groups-more : (m next : ℕ) → b < 256 → Said-next (reads m next) → Is (Ok (record { value = b - 128 + 128 * m; next = next }))
+      groups-more m next s i =
+          let w = i.within in
+          same-reading follows (goes_on high i (read refl w.0 (power-more k b m n s w.1)))

@@ -1,4 +1,5 @@
 -- The places of a sheet's parts.
+use Rattle.std.specs.Prelude.{Err}
 use Rattle.std.proofs.Common.{◌≡◌, ℕ, ◌-◌, ◌<◌, ◌≤◌, Bool, true, false, ltb, List, length, drop, sym, refl, ap, ◌∙◌, arith, length-drop, le-ltb, lt-ltb}
 use Rattle.refusal.specs.declared.Refusal.{Refusal}
 use Rattle.refusal.specs.declared.Refusal.TheVariants.{BadSheet}
@@ -6,9 +7,8 @@ use Rattle.sheet.specs.Sheet.{Got, fails, gets, ◌and_then◌, malformed_if, co
 use Rattle.sheet.specs.Answers.{Said, refuses, reads, Agrees, ItemsIs, standing}
 use Rattle.sheet.specs.Places.{mapped, items_in, places_in, sheet_places}
 use Rattle.sheet.specs.declared.Items.{Items}
-use Rattle.sheet.specs.declared.GotItems.TheVariants.{Refused}
 use Rattle.sheet.proofs.SheetLaws.{refused-got}
-use Rattle.sheet.proofs.AnswerLaws.{refused, same-reading, then-stops, then-on, read-within}
+use Rattle.sheet.proofs.AnswerLaws.{refused, same-reading, then-stops, then-on}
 
 -- ---- a count, and so many items: one law for segments and targets, over what reads one of them
 
@@ -22,15 +22,15 @@ stand-there sheet n from h (gets xs r) =
     ap (λ (k : ℕ). gets (record { count = n; at = k }) r) e
 
 module _ {A : Type 0} (one : ℕ → List ℕ → Got A) (sheet : List ℕ) where
-  module _ {P : ℕ → Type 0} {said : Said ℕ} (bs : List ℕ) (i : Agrees sheet (λ n. n) P said (count bs)) where
-    pub uncounted : {c : Refusal} → said ≡ refuses c → ItemsIs sheet (Refused c) (mapped (items_in sheet) (counted one bs))
-    uncounted e = refused (ap (mapped (items_in sheet)) (then-stops i _ e))
+  module _ {P : ℕ → Type 0} (bs : List ℕ) where
+    pub uncounted : {c : Refusal} → Agrees sheet (λ n. n) P (refuses c) (count bs) → ItemsIs sheet (Err c) (mapped (items_in sheet) (counted one bs))
+    uncounted i = refused (ap (mapped (items_in sheet)) (then-stops _ i))
 
-    pub by_count : {n from : ℕ} {said' : Said Items} → said ≡ reads n from
-        → Agrees sheet (λ x. x) (λ x. Unit) said' (standing n from (repeated (one n) n (drop from sheet)))
-        → Agrees sheet (λ x. x) (λ x. Unit) said' (mapped (items_in sheet) (counted one bs))
-    by_count {n} {from} e j =
-        same-reading (ap (mapped (items_in sheet)) (then-on i _ e) ∙ stand-there sheet n from (read-within i e).0 (repeated (one n) n (drop from sheet))) j
+    pub by_count : {n from : ℕ} {said : Said Items} → Agrees sheet (λ n. n) P (reads n from) (count bs)
+        → Agrees sheet (λ x. x) (λ x. Unit) said (standing n from (repeated (one n) n (drop from sheet)))
+        → Agrees sheet (λ x. x) (λ x. Unit) said (mapped (items_in sheet) (counted one bs))
+    by_count {n} {from} i j =
+        same-reading (ap (mapped (items_in sheet)) (then-on _ i) ∙ stand-there sheet n from i.within.0 (repeated (one n) n (drop from sheet))) j
 
 -- ---- what a reading was, by what it was mapped to
 
@@ -58,27 +58,32 @@ off f e = ap (λ g. g and_then f) e
 
 -- ---- the two parts of a sheet
 
-module _ (sheet : List ℕ) {P : Items → Type 0} {said : Said Items} (i : Agrees sheet (λ x. x) P said (mapped (items_in sheet) (counted segment sheet))) where
-  pub segments-refused : {c : Refusal} → said ≡ refuses c → sheet_places sheet ≡ fails c
+module _ (sheet : List ℕ) where
+  abbrev segments-there : Got Items
+  segments-there = mapped (items_in sheet) (counted segment sheet)
+
+  pub segments-refused : {c : Refusal} → Agrees sheet (λ x. x) (λ x. Unit) (refuses c) segments-there → sheet_places sheet ≡ fails c
   unfolding sheet_places sheet_from
-  segments-refused {c} e =
-      let g = was-refused (items_in sheet) (counted segment sheet) c (sym (rw e at i).same) in
+  segments-refused {c} i =
+      let g = was-refused (items_in sheet) (counted segment sheet) c (sym i.same) in
       ap (mapped (places_in sheet)) (off _ g)
 
-  module _ {segments : Items} {next : ℕ} (e : said ≡ reads segments next) {Q : Items → Type 0} {said' : Said Items}
-      (j : Agrees sheet (λ x. x) Q said' (mapped (items_in sheet) (counted (λ n. target) (drop next sheet)))) where
+  module _ {segments : Items} {next : ℕ} (i : Agrees sheet (λ x. x) (λ x. Unit) (reads segments next) segments-there) where
     first : Was (items_in sheet) (counted segment sheet) segments (drop next sheet)
-    first = was_read (items_in sheet) (counted segment sheet) segments (drop next sheet) (sym (rw e at i).same)
+    first = was_read (items_in sheet) (counted segment sheet) segments (drop next sheet) (sym i.same)
 
-    pub targets-refused : {c : Refusal} → said' ≡ refuses c → sheet_places sheet ≡ fails c
+    abbrev targets-there : Got Items
+    targets-there = mapped (items_in sheet) (counted (λ n. target) (drop next sheet))
+
+    pub targets-refused : {c : Refusal} → Agrees sheet (λ x. x) (λ x. Unit) (refuses c) targets-there → sheet_places sheet ≡ fails c
     unfolding sheet_places sheet_from
-    targets-refused {c} h =
-        let g = was-refused (items_in sheet) (counted (λ n. target) (drop next sheet)) c (sym (rw h at j).same) in
+    targets-refused {c} j =
+        let g = was-refused (items_in sheet) (counted (λ n. target) (drop next sheet)) c (sym j.same) in
         ap (mapped (places_in sheet)) (on _ first.is ∙ off _ g)
 
-    module _ {targets : Items} {end : ℕ} (h : said' ≡ reads targets end) where
+    module _ {targets : Items} {end : ℕ} (j : Agrees sheet (λ x. x) (λ x. Unit) (reads targets end) targets-there) where
       second : Was (items_in sheet) (counted (λ n. target) (drop next sheet)) targets (drop end sheet)
-      second = was_read (items_in sheet) (counted (λ n. target) (drop next sheet)) targets (drop end sheet) (sym (rw h at j).same)
+      second = was_read (items_in sheet) (counted (λ n. target) (drop next sheet)) targets (drop end sheet) (sym j.same)
 
       by-rest : (t : Bool) → ltb 0 (length sheet - end) ≡ t
           → sheet_places sheet ≡ mapped (places_in sheet) (malformed_if t (gets (record { segments = first.value; targets = second.value }) (drop end sheet)))

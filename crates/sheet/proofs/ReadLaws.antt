@@ -1,12 +1,12 @@
 -- What the places of a sheet say of `sheet_of` and `sheet_refusal`.
+use Rattle.std.specs.Prelude.{Err, Ok, Result}
+use Rattle.refusal.specs.declared.Refusal.{Refusal}
 use Rattle.std.proofs.Common.{◌≡◌, ℕ, List, length, sym, refl, ap, ◌∙◌, subst, arith}
 use Rattle.refusal.specs.Number.{answer_of}
 use Rattle.sheet.specs.Sheet.{SegmentRead, Sheet, Got, fails, gets, Counted, Parts, segment, target, repeated, sheet_from, refusal_in, sheet_refusal, sheet_in, sheet_of}
 use Rattle.sheet.specs.Places.{mapped, items_in, places_in, sheet_places, answer_in, refusal_of, sheet_number}
 use Rattle.sheet.specs.declared.Places.{Places}
 use Rattle.sheet.specs.declared.Target.{Target}
-use Rattle.sheet.specs.declared.SheetAnswer.{SheetAnswer}
-use Rattle.sheet.specs.declared.SheetAnswer.TheVariants.{Refused, Read}
 use Rattle.sheet.proofs.SheetLaws.{refused-got, Reads, read-parts}
 use Rattle.sheet.proofs.SuffixLaws.{Suffix, all, suffix-place, Leaves, nothing, end, count-leaves, segment-leaves, repeated-leaves, trans}
 use Rattle.sheet.proofs.WalkLaws.{Ahead, Walk, walk-yields}
@@ -14,7 +14,7 @@ use Rattle.sheet.proofs.WalkLaws.{Ahead, Walk, walk-yields}
 -- ---- the same refusals
 
 -- an answer with the places says the refusal
-pub answer-refusal : (sheet : List ℕ) (r : SheetAnswer) → r ≡ answer_in (sheet_places sheet) → refusal_of r ≡ sheet_refusal sheet
+pub answer-refusal : (sheet : List ℕ) (r : Result Places Refusal) → r ≡ answer_in (sheet_places sheet) → refusal_of r ≡ sheet_refusal sheet
 unfolding sheet_places sheet_refusal
 answer-refusal sheet r e = ap refusal_of e ∙ by (sheet_from sheet)
   where
@@ -23,13 +23,13 @@ answer-refusal sheet r e = ap refusal_of e ∙ by (sheet_from sheet)
     by (gets p bs) = refl
 
 -- and its number
-pub answer-number : (sheet : List ℕ) (r : SheetAnswer) → r ≡ answer_in (sheet_places sheet)
+pub answer-number : (sheet : List ℕ) (r : Result Places Refusal) → r ≡ answer_in (sheet_places sheet)
     → (r ≡ answer_in (sheet_places sheet)) × (sheet_number r ≡ answer_of (sheet_refusal sheet))
 answer-number sheet r e = (e, by r ∙ ap answer_of (answer-refusal sheet r e))
   where
-    by : (x : SheetAnswer) → sheet_number x ≡ answer_of (refusal_of x)
-    by (Refused c) = refl
-    by (Read p) = refl
+    by : (x : Result Places Refusal) → sheet_number x ≡ answer_of (refusal_of x)
+    by (Err c) = refl
+    by (Ok p) = refl
 
 -- ---- the same segments and targets
 
@@ -72,16 +72,16 @@ parts-ahead sheet p q e =
     }
 
 -- a sheet that was read
-pub sheet-ahead : (sheet : List ℕ) (p : Places) → answer_in (sheet_places sheet) ≡ Read p → SheetAhead sheet p
+pub sheet-ahead : (sheet : List ℕ) (p : Places) → answer_in (sheet_places sheet) ≡ Ok p → SheetAhead sheet p
 unfolding sheet_places
 sheet-ahead sheet p e = by (sheet_from sheet) (parts-ahead sheet) e
   where
-    by : (g : Got Parts) → ((x : Parts) (q : List ℕ) → g ≡ gets x q → SheetAhead sheet (places_in sheet x)) → answer_in (mapped (places_in sheet) g) ≡ Read p → SheetAhead sheet p
+    by : (g : Got Parts) → ((x : Parts) (q : List ℕ) → g ≡ gets x q → SheetAhead sheet (places_in sheet x)) → answer_in (mapped (places_in sheet) g) ≡ Ok p → SheetAhead sheet p
     by (fails c) f h = let z : ◌≡◌ {A = ℕ} 0 1 = cc in absurd (omega arith)
     by (gets x q) f h = let i : places_in sheet x ≡ p = cc in subst (SheetAhead sheet) i (f x q refl)
 
 -- as many steps from the first place as there are segments yield the segments in order, and the same of targets
-module _ (sheet : List ℕ) (p : Places) (e : answer_in (sheet_places sheet) ≡ Read p) where
+module _ (sheet : List ℕ) (p : Places) (e : answer_in (sheet_places sheet) ≡ Ok p) where
   pub segments-walk : {A : Type 0} {meaning : A → SegmentRead} {P : A → Type 0} (ss : List SegmentRead)
       → Walk (segment p.segments.count) sheet meaning P p.segments.at ss → length ss ≡ p.segments.count → ss ≡ (sheet_of sheet).segments
   segments-walk ss w n = walk-yields (segment p.segments.count) sheet p.segments.count p.segments.at (sheet_of sheet).segments ss (sheet-ahead sheet p e).segments w n

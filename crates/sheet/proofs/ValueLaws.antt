@@ -1,77 +1,73 @@
 -- Which bits are a finite float; values by their kind.
-use Rattle.std.proofs.Common.{◌≡◌, ℕ, zero, suc, ◌+◌, ◌-◌, ◌/◌, ◌%◌, ◌<◌, ◌≤◌, Bool, true, false, cond, eqb, ltb, leb, List, length, get_or, take, drop, sym, refl, ap, ◌∙◌, add-zero, arith, length-drop, drop_of_length-le, length-take-le, take_all, drop-drop, le-ltb, lt-ltb, ne_eqb}
+use Rattle.std.specs.Prelude.{Err, Ok}
+use Rattle.std.proofs.Common.{◌≡◌, ℕ, zero, suc, ◌+◌, ◌-◌, ◌<◌, ◌≤◌, Bool, true, false, ltb, List, length, get_or, take, drop, sym, refl, ap, ◌∙◌, add-zero, arith, length-drop, drop_of_length-le, length-take-le, take_all, drop-drop, le-ltb, lt-ltb}
 use native.Mathlib.Nat.{add-sub_cancel_left}
-use lib.Ieee.{Float, nan, inf, binary32, prec, hid, top, odd, of_fields, of_bits}
-use Rattle.base.specs.Choice.{pick}
+use lib.Ieee.{Float, nan, inf, fin, binary32, of_bits}
+use Rattle.std.specs.Float.{float_is_finite}
+use Rattle.std.specs.List.{slice_range}
 use Rattle.base.specs.Bytes.{little_endian}
 use Rattle.base.specs.Words.{signed32}
 use Rattle.base.proofs.ByteLaws.{little_endian-drop}
 use Rattle.decimal.specs.Decimal.{text_value}
 use Rattle.refusal.specs.declared.Refusal.TheVariants.{BadSheet, NotFinite, LongText}
-use Rattle.sheet.specs.Sheet.{fails, gets, malformed_if, is_finite, finite, text, value_of, value}
-use Rattle.sheet.specs.Answers.{Said, refuses, reads, Agrees, value_says, float_read}
+use Rattle.sheet.specs.Sheet.{Got, fails, gets, ◌and_then◌, malformed_if, is_finite, finite, text, value_of, value}
+use Rattle.sheet.specs.Answers.{Said, refuses, reads, Agrees, word, WordIs, ValueIs}
 use Rattle.sheet.specs.declared.Value.{Value}
-use Rattle.sheet.specs.declared.Value.TheVariants.{Int, Float as FloatValue, Absent}
-use Rattle.sheet.specs.declared.GotValue.TheVariants as answer
-use Rattle.sheet.proofs.AnswerLaws.{from_place, refused, read, same-reading, test-passes, test-fails}
+use Rattle.sheet.specs.declared.Value.TheVariants.{Int, Float as FloatValue}
+use Rattle.sheet.proofs.AnswerLaws.{from_byte, refused, read, same-reading, test-passes, test-fails}
 
--- ---- finite floats
+-- ---- words, and the values that are one
 
-odd-finite : (d : ℕ) (s : Bool) (q k l : ℕ) → is_finite (odd d s q k l) ≡ true
-unfolding is_finite odd
-odd-finite d s zero k l = refl
-odd-finite d s (suc q) k l = refl
+after-test : {A B : Type 0} (t : Bool) (x : A) (r : List ℕ) (f : A → List ℕ → Got B) → (malformed_if t (gets x r) and_then f) ≡ malformed_if t (f x r)
+unfolding ◌and_then◌
+after-test true x r f = refl
+after-test false x r f = refl
 
-fields-finite : (s : Bool) (x t : ℕ) → (x ≡ 255 → ⊥) → is_finite (of_fields binary32 s x t) ≡ true
-unfolding of_fields
-fields-finite s zero t n = odd-finite (prec binary32) s t 0 149
-fields-finite s (suc x) t n = let e = ne_eqb (suc x) 255 n in rw e (odd-finite (prec binary32) s (hid binary32 + t) x 149)
+pub int-word : (bs : List ℕ) → value_of 0 bs ≡ (word bs and_then λ w r. gets (Int (signed32 w)) r)
+unfolding value_of
+int-word bs = sym (after-test (ltb (length bs) 4) _ _ _)
 
-fields-infinite : (s : Bool) (t : ℕ) → is_finite (of_fields binary32 s 255 t) ≡ false
-unfolding of_fields is_finite
-fields-infinite s t = go (eqb t 0)
-  where
-    go : (z : Bool) → is_finite (cond z (inf s) nan) ≡ false
-    go true = refl
-    go false = refl
+pub float-word : (bs : List ℕ) → value_of 1 bs ≡ (word bs and_then λ w r. finite (of_bits binary32 w) r)
+unfolding value_of
+float-word bs = sym (after-test (ltb (length bs) 4) _ _ _)
 
-module _ (word : ℕ) where
-  pub bits-finite : word % 2147483648 < 2139095040 → is_finite (of_bits binary32 word) ≡ true
-  unfolding of_bits
-  bits-finite h = fields-finite (leb (top binary32) word) (word % 2147483648 / 8388608) (word % 8388608) (λ e. omega arith)
+module _ (sheet : List ℕ) (at : ℕ) where
+  pub word-cut : length sheet - at < 4 → WordIs sheet (Err BadSheet) (word (drop at sheet))
+  word-cut s = test-passes _ (lt-ltb (length (drop at sheet)) 4 (rw length-drop s))
 
-  pub bits-infinite : 2139095040 ≤ word % 2147483648 → is_finite (of_bits binary32 word) ≡ false
-  unfolding of_bits
-  bits-infinite h =
-      let e : word % 2147483648 / 8388608 ≡ 255 = omega arith in
-      ap (λ (x : ℕ). is_finite (of_fields binary32 (leb (top binary32) word) x (word % 8388608))) e ∙ fields-infinite (leb (top binary32) word) (word % 8388608)
+  pub word-read : (w : ℕ) → w ≡ little_endian 4 sheet at → 4 ≤ length sheet - at → WordIs sheet (Ok (record { value = w; next = at + 4 })) (word (drop at sheet))
+  word-read w e s =
+      let k : little_endian 4 (drop at sheet) 0 ≡ w = little_endian-drop 4 sheet at 0 ∙ rw add-zero (sym e) in
+      test-fails
+      (le-ltb (length (drop at sheet)) 4 (rw length-drop s))
+      (read (rw k (ap (gets w) (drop-drop 4 at sheet))) (omega arith) tt)
+
+-- finite as std has it, and as the definition has it
+same-finite : (x : Float) → is_finite x ≡ float_is_finite x
+unfolding is_finite float_is_finite
+same-finite nan = refl
+same-finite (inf s) = refl
+same-finite (fin s m e) = refl
+
+module _ {sheet : List ℕ} (x : Float) (w next : ℕ) (e : x ≡ of_bits binary32 w) where
+  pub float-finite : true ≡ float_is_finite x → next ≤ length sheet
+      → ValueIs sheet (Ok (record { value = FloatValue x; next = next })) (finite (of_bits binary32 w) (drop next sheet))
+  unfolding finite
+  float-finite f h = rw (← e) (let t = same-finite x ∙ sym f in read (rw t refl) h tt)
+
+  pub float-infinite : false ≡ float_is_finite x → ValueIs sheet (Err NotFinite) (finite (of_bits binary32 w) (drop next sheet))
+  unfolding finite
+  float-infinite f = rw (← e) (let t = same-finite x ∙ sym f in refused (rw t refl))
 
 -- ---- values
 
-unknown : (k : ℕ) (bs : List ℕ) → 3 < k → value_of k bs ≡ fails BadSheet
+pub unknown : (k : ℕ) (bs : List ℕ) → 3 < k → value_of k bs ≡ fails BadSheet
 unfolding value_of
 unknown zero bs h = absurd (omega arith)
 unknown (suc zero) bs h = absurd (omega arith)
 unknown (suc (suc zero)) bs h = absurd (omega arith)
 unknown (suc (suc (suc zero))) bs h = absurd (omega arith)
 unknown (suc (suc (suc (suc k)))) bs h = refl
-
-cut : (k : ℕ) (bs : List ℕ) → k < 2 → length bs < 4 → value_of k bs ≡ fails BadSheet
-unfolding value_of
-cut zero bs h l = let t = lt-ltb (length bs) 4 l in rw t
-cut (suc zero) bs h l = let t = lt-ltb (length bs) 4 l in rw t
-cut (suc (suc k)) bs h l = absurd (omega arith)
-
--- a float that was read is a float, or not finite
-float_read_lem : {sheet : List ℕ} (x : Float) (next : ℕ) → next ≤ length sheet
-    → Agrees sheet (λ (v : Value). v) (λ v. Unit) (value_says (pick (is_finite x) (answer.Read (FloatValue x) next) (answer.Refused NotFinite))) (finite x (drop next sheet))
-unfolding finite
-float_read_lem {sheet} x next h = go (is_finite x)
-  where
-    go : (t : Bool) → Agrees sheet (λ (v : Value). v) (λ v. Unit) (value_says (pick t (answer.Read (FloatValue x) next) (answer.Refused NotFinite)))
-        (pick t (gets (FloatValue x) (drop next sheet)) (fails NotFinite))
-    go true = read refl h tt
-    go false = refused refl
 
 -- what is answered of a text, from the place of its length on
 module _ (sheet : List ℕ) (at : ℕ) where
@@ -82,87 +78,42 @@ module _ (sheet : List ℕ) (at : ℕ) where
   unfolding text
   text-end h = refused (ap text (drop_of_length-le sheet h))
 
-  module _ (h : at < length sheet) where
-    -- its length, and what follows that
-    abbrev n : ℕ
-    n = get_or sheet at 0
-
+  -- its length n, and what follows that
+  module _ (n : ℕ) (h : (at < length sheet) × ((d : ℕ) → n ≡ get_or sheet at d)) where
     abbrev behind : List ℕ
     behind = drop (at + 1) sheet
 
     pub text-long : 12 < n → TextIs (refuses LongText)
     unfolding text
-    text-long l = refused (ap text (from_place sheet at h) ∙ rw (lt-ltb 12 n l))
+    text-long l = refused (ap text (from_byte sheet at n h) ∙ rw (lt-ltb 12 n l))
 
     module _ (l : n ≤ 12) where
       short : text (drop at sheet) ≡ malformed_if (ltb (length behind) n) (gets (FloatValue (text_value (take n behind))) (drop n behind))
       unfolding text
-      short = ap text (from_place sheet at h) ∙ rw (le-ltb 12 n l)
+      short = ap text (from_byte sheet at n h) ∙ rw (le-ltb 12 n l)
 
       pub text-cut : length sheet < at + 1 + n → TextIs (refuses BadSheet)
       text-cut s = same-reading short (test-passes _ (lt-ltb (length behind) n (rw length-drop (omega arith))))
 
-      -- the part of the sheet that is read
-      pub text-read : at + 1 + n ≤ length sheet → TextIs (reads (FloatValue (text_value (take 12 (take (at + 1 + n - (at + 1)) behind)))) (at + 1 + n))
-      text-read s =
+      pub text-read : (x : Float) (m : ℕ) (t : List ℕ) → x ≡ text_value (take 12 t) → m ≡ n → t ≡ slice_range sheet (at + 1) (at + 1 + m) → at + 1 + m ≤ length sheet
+          → TextIs (reads (FloatValue x) (at + 1 + m))
+      text-read x m t e i p s =
           let part = add-sub_cancel_left (at + 1) n in
           let enough : n ≤ length behind = rw length-drop (omega arith) in
           let long = length-take-le n behind enough in
           let all = take_all 12 (take n behind) (omega arith) in
-          same-reading short
+          rw (e, p, i)
+          (same-reading short
           (test-fails (le-ltb (length behind) n enough)
-          (read (rw (part, all) (ap (gets (FloatValue (text_value (take n behind)))) (drop-drop n (at + 1) sheet))) s tt))
+          (read (rw (part, all) (ap (gets (FloatValue (text_value (take n behind)))) (drop-drop n (at + 1) sheet))) (omega arith) tt)))
 
 -- what is answered at a place
 module _ (sheet : List ℕ) (at : ℕ) where
-  abbrev pub Is : Said Value → Type 0
-  Is says = Agrees sheet (λ v. v) (λ v. Unit) says (value (drop at sheet))
-
-  pub value-end : length sheet ≤ at → Is (refuses BadSheet)
+  pub value-end : length sheet ≤ at → Agrees sheet (λ v. v) (λ v. Unit) (refuses BadSheet) (value (drop at sheet))
   unfolding value
   value-end h = refused (ap value (drop_of_length-le sheet h))
 
-  -- the kind, and what follows it
-  abbrev kind : ℕ
-  kind = get_or sheet at 0
-
-  abbrev rest : List ℕ
-  rest = drop (at + 1) sheet
-
-  module _ (h : at < length sheet) where
-    by_kind : (k : ℕ) → kind ≡ k → value (drop at sheet) ≡ value_of k rest
-    unfolding value
-    by_kind k e = ap value (from_place sheet at h) ∙ ap (λ (n : ℕ). value_of n rest) e
-
-    pub value-absent : kind ≡ 2 → Is (reads Absent (at + 1))
-    unfolding value_of
-    value-absent e = read (by_kind 2 e) (omega arith) tt
-
-    pub value-text : kind ≡ 3 → (says : Said Value) → TextIs sheet (at + 1) says → Is says
-    unfolding value_of
-    value-text e says i = same-reading (by_kind 3 e) i
-
-    pub value-unknown : 2 < kind → (kind ≡ 3 → ⊥) → Is (refuses BadSheet)
-    value-unknown l n = refused (by_kind kind refl ∙ unknown kind rest (omega arith))
-
-    pub value-cut : kind < 2 → length sheet - (at + 1) < 4 → Is (refuses BadSheet)
-    value-cut l s = refused (by_kind kind refl ∙ cut kind rest l (rw length-drop s))
-
-    module _ (s : 4 ≤ length sheet - (at + 1)) (word : ℕ) (w : word ≡ little_endian 4 sheet (at + 1)) where
-      whole : ltb (length rest) 4 ≡ false
-      whole = le-ltb (length rest) 4 (rw length-drop s)
-
-      word-is : little_endian 4 rest 0 ≡ word
-      word-is = little_endian-drop 4 sheet (at + 1) 0 ∙ rw add-zero (sym w)
-
-      pub value-int : kind ≡ 0 → Is (reads (Int (signed32 word)) (at + 1 + 4))
-      unfolding value_of
-      value-int e =
-          same-reading (by_kind 0 e) (test-fails whole (read (rw word-is (ap (gets (Int (signed32 word))) (drop-drop 4 (at + 1) sheet))) (omega arith) tt))
-
-      pub value-float : kind ≡ 1 → Is (value_says (float_read word (at + 1 + 4)))
-      unfolding value_of
-      value-float e =
-          same-reading
-          (by_kind 1 e ∙ ap (λ (n : ℕ). malformed_if (ltb (length rest) 4) (finite (of_bits binary32 n) (drop 4 rest))) word-is)
-          (test-fails whole (same-reading (ap (finite (of_bits binary32 word)) (drop-drop 4 (at + 1) sheet)) (float_read_lem (of_bits binary32 word) (at + 1 + 4) (omega arith))))
+  -- by the kind, and what follows it
+  pub by_kind : (b : ℕ) → (at < length sheet) × ((d : ℕ) → b ≡ get_or sheet at d) → (k : ℕ) → b ≡ k → value (drop at sheet) ≡ value_of k (drop (at + 1) sheet)
+  unfolding value
+  by_kind b h k e = ap value (from_byte sheet at b h) ∙ ap (λ (n : ℕ). value_of n (drop (at + 1) sheet)) e

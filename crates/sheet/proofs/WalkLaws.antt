@@ -1,18 +1,9 @@
 -- Walking segments, or targets, that were read.
-use Rattle.std.proofs.Common.{◌≡◌, ℕ, zero, suc, ◌-◌, true, false, List, [], ◌∷◌, length, drop, sym, refl, ap, ◌∙◌, true≢false, arith}
-use Rattle.refusal.specs.declared.Refusal.{Refusal}
+use Rattle.std.proofs.Common.{◌≡◌, ℕ, zero, suc, ◌-◌, true, List, [], ◌∷◌, length, drop, sym, refl, ap, ◌∙◌, arith}
 use Rattle.sheet.specs.Sheet.{Got, gets, repeated}
-use Rattle.sheet.specs.Answers.{Said, refuses, reads, Agrees}
+use Rattle.sheet.specs.Answers.{reads, Agrees}
 use Rattle.sheet.specs.Places.{is_read}
 use Rattle.sheet.proofs.SheetLaws.{came}
-
--- where something is read, no refusal is answered
-pub not-refused : {A B : Type 0} {sheet : List ℕ} {meaning : A → B} {P : A → Type 0} {says : Said A} {g : Got B} {r : Refusal}
-    → Agrees sheet meaning P says g → says ≡ refuses r → is_read g ≡ true → ⊥
-not-refused i e h =
-    let f = (rw e at i).same in
-    let z : false ≡ true = ap is_read f ∙ h in
-    true≢false (sym z)
 
 module _ {B : Type 0} (one : List ℕ → Got B) (sheet : List ℕ) where
   -- from a place of the sheet on, k items are read, and they are xs

@@ -1,13 +1,10 @@
 -- Where the reading of a sheet (`sheet_from`) met its segments and its targets, and the answer that says so.
-use Rattle.std.specs.Prelude.{ℕ, ◌-◌, Bool, true, false, List, length}
-use Rattle.std.proofs.Math.Option.{Option, none, some}
+use Rattle.std.specs.Prelude.{ℕ, ◌-◌, Bool, true, false, List, length, Err, None, Ok, Option, Result, Some}
 use Rattle.refusal.specs.declared.Refusal.{Refusal}
 use Rattle.refusal.specs.Number.{number_of}
 use Rattle.sheet.specs.Sheet.{Got, fails, gets, Counted, Parts, sheet_from}
 use Rattle.sheet.specs.declared.Items.{Items}
 use Rattle.sheet.specs.declared.Places.{Places}
-use Rattle.sheet.specs.declared.SheetAnswer.{SheetAnswer}
-use Rattle.sheet.specs.declared.SheetAnswer.TheVariants.{Refused, Read}
 
 -- the reading with another form of what was read
 abbrev pub mapped : {A B : Type 0} → (A → B) → Got A → Got B
@@ -24,18 +21,18 @@ places_in sheet p = record { segments = items_in sheet p.segments; targets = ite
 unfoldable pub sheet_places : List ℕ → Got Places
 sheet_places sheet = mapped (places_in sheet) (sheet_from sheet)
 
-abbrev pub answer_in : Got Places → SheetAnswer
-answer_in (fails r) = Refused r
-answer_in (gets p bs) = Read p
+abbrev pub answer_in : Got Places → Result Places Refusal
+answer_in (fails r) = Err r
+answer_in (gets p bs) = Ok p
 
-abbrev pub refusal_of : SheetAnswer → Option Refusal
-refusal_of (Refused r) = some r
-refusal_of (Read p) = none
+abbrev pub refusal_of : Result Places Refusal → Option Refusal
+refusal_of (Err r) = Some r
+refusal_of (Ok p) = None
 
 -- the number of an answer: 0 where the sheet was read
-abbrev pub sheet_number : SheetAnswer → ℕ
-sheet_number (Refused r) = number_of r
-sheet_number (Read p) = 0
+abbrev pub sheet_number : Result Places Refusal → ℕ
+sheet_number (Err r) = number_of r
+sheet_number (Ok p) = 0
 
 -- something was read
 abbrev pub is_read : {A : Type 0} → Got A → Bool

@@ -1,6 +1,5 @@
 -- Document 01, 'Call sheet', and document 02, A4: reading one stops at the first 8, 9 or 17.
-use Rattle.std.specs.Prelude.{ℕ, zero, suc, ◌+◌, ◌-◌, ◌*◌, Bool, true, false, not, ◌&&◌, ◌||◌, List, [], ◌∷◌, length, take, drop, pos, ◌==◌, from_bits, nat_lt, Float}
-use Rattle.std.proofs.Math.Option.{Option, none, some}
+use Rattle.std.specs.Prelude.{ℕ, zero, suc, ◌+◌, ◌-◌, ◌*◌, Bool, true, false, not, ◌&&◌, ◌||◌, List, [], ◌∷◌, length, take, drop, pos, ◌==◌, from_bits, nat_lt, Float, None, Option, Some}
 use Rattle.std.specs.Float.{nan, inf, fin, binary32}
 use Rattle.std.specs.Float.Ieee.{of_int}
 use Rattle.base.specs.Choice.{pick, within}
@@ -150,8 +149,8 @@ sheet_from bs =
     malformed_if (nat_lt 0 (length r₁)) (gets (record { segments = segments; targets = targets }) r₁)
 
 abbrev pub refusal_in : {A : Type 0} → Got A → Option Refusal
-refusal_in (fails r) = some r
-refusal_in (gets x bs) = none
+refusal_in (fails r) = Some r
+refusal_in (gets x bs) = None
 
 abbrev pub sheet_in : Got Parts → Sheet
 sheet_in (fails r) = record { segments = []; targets = [] }

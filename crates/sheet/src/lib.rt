@@ -2,11 +2,12 @@
 // it, and answers what stands there and the place after it.
 #![tactic(auto)]
 
-ghost use Rattle.std.specs.Prelude.{◌≡◌, ◌+◌, ◌^◌, ◌≤◌, true, length, drop};
+ghost use Rattle.std.specs.Prelude.{ℕ, List, ◌≡◌, ◌+◌, ◌^◌, ◌≤◌, true, length, drop, Ok};
 ghost use Rattle.refusal.specs.Number.{answer_of};
 ghost use Rattle.sheet.specs.Sheet as sheets;
-ghost use Rattle.sheet.specs.Answers.{reads, NumberIs, NameIs, ValueIs, SegmentSaid, SegmentIs};
-ghost use Rattle.sheet.specs.Answers.{TargetSaid, TargetIs, ItemsIs, bytes_at, float_read, standing};
+ghost use Rattle.sheet.specs.Sheet.{Got};
+ghost use Rattle.sheet.specs.Answers.{Agrees, reads, says, NumberIs, NameIs, word, WordIs, ValueIs};
+ghost use Rattle.sheet.specs.Answers.{SegmentSaid, SegmentIs, TargetSaid, TargetIs, ItemsIs, bytes_at, segment_read};
 ghost use Rattle.sheet.specs.Followers.{name_of};
 ghost use Rattle.sheet.specs.Places.{answer_in, is_read, items_in, mapped, sheet_number, sheet_places};
 
@@ -37,41 +38,11 @@ pub struct Target {
     pub f0: Value,
 }
 
-// What the reader answers at a place: why it is refused, or what was read and the place after it.
-
-// A number that was read, and the place after it.
+// What was read, and the place after it.
 #[derive(Clone, Copy)]
-enum GotNumber {
-    Refused(Refusal),
-    Read(usize, usize),
-}
-
-// Where a name stands that was read; the place after it is its end.
-#[derive(Clone, Copy)]
-enum GotName {
-    Refused(Refusal),
-    Read(Span),
-}
-
-// A value that was read, and the place after it.
-#[derive(Clone, Copy)]
-enum GotValue {
-    Refused(Refusal),
-    Read(Value, usize),
-}
-
-// A segment that was read, and the place after it.
-#[derive(Clone, Copy)]
-enum GotSegment {
-    Refused(Refusal),
-    Read(Segment, usize),
-}
-
-// A target that was read, and the place after it.
-#[derive(Clone, Copy)]
-enum GotTarget {
-    Refused(Refusal),
-    Read(Target, usize),
+pub struct Read<T> {
+    pub value: T,
+    pub next: usize,
 }
 
 // Segments, or targets: how many, and the place of the first.
@@ -81,13 +52,6 @@ pub struct Items {
     pub at: usize,
 }
 
-// Segments, or targets, that were read, and the place after them.
-#[derive(Clone, Copy)]
-enum GotItems {
-    Refused(Refusal),
-    Read(Items, usize),
-}
-
 // Where a sheet has its segments and its targets.
 #[derive(Clone, Copy)]
 pub struct Places {
@@ -95,28 +59,8 @@ pub struct Places {
     pub targets: Items,
 }
 
-// A segment of a sheet that was read, and the place after it.
-#[derive(Clone, Copy)]
-pub struct SegmentStep {
-    pub segment: Segment,
-    pub next: usize,
-}
-
-// A target of a sheet that was read, and the place after it.
-#[derive(Clone, Copy)]
-pub struct TargetStep {
-    pub target: Target,
-    pub next: usize,
-}
-
-// A sheet that was read, or why it is refused.
-#[derive(Clone, Copy)]
-pub enum SheetAnswer {
-    Refused(Refusal),
-    Read(Places),
-}
-
 // The value as f32: a whole number to the nearest, ties to even; 0 where it is absent.
+#[tactic(auto, unfolding(crate::specs::Sheet::as_f32))]
 pub fn as_f32(value: Value) -> f32
     ensures { result ≡ sheets.as_f32 value }
 {
@@ -129,371 +73,298 @@ pub fn as_f32(value: Value) -> f32
 
 // A number of at most so many groups of seven bits, the lowest first. The last group of several is
 // not 0.
-fn read_groups(sheet: &[u8], at: usize, left: usize, first: bool) -> GotNumber
+fn read_groups(sheet: &[u8], at: usize, left: usize, first: bool) -> Result<Read<usize>, Refusal>
     requires { left ≤ 5 }
     ensures { NumberIs sheet.now (128 ^ left) result (sheets.groups left first (drop at sheet.now)) }
 {
-    if left == 0 {
-        return GotNumber::Refused(Refusal::BadSheet);
+    if left == 0 || sheet.len() <= at {
+        return Err(Refusal::BadSheet);
     }
-    if sheet.len() <= at {
-        return GotNumber::Refused(Refusal::BadSheet);
-    }
-    let group = sheet[at] as usize;
+    let group = usize::from(sheet[at]);
     if group < 128 {
-        if first {
-            return GotNumber::Read(group, at + 1);
+        if group == 0 && !first {
+            return Err(Refusal::BadSheet);
         }
-        if group == 0 {
-            return GotNumber::Refused(Refusal::BadSheet);
-        }
-        return GotNumber::Read(group, at + 1);
+        return Ok(Read {
+            value: group,
+            next: at + 1,
+        });
     }
-    match read_groups(sheet, at + 1, left - 1, false) {
-        GotNumber::Refused(cause) => GotNumber::Refused(cause),
-        GotNumber::Read(high, next) => GotNumber::Read(group - 128 + 128 * high, next),
-    }
+    let high = read_groups(sheet, at + 1, left - 1, false)?;
+    Ok(Read {
+        value: group - 128 + 128 * high.value,
+        next: high.next,
+    })
 }
 
 // A number in groups of seven bits: at most five, in the shortest form.
-fn read_number(sheet: &[u8], at: usize) -> GotNumber
+fn read_number(sheet: &[u8], at: usize) -> Result<Read<usize>, Refusal>
     ensures { NumberIs sheet.now (2 ^ 35) result (sheets.number (drop at sheet.now)) }
 {
     read_groups(sheet, at, 5, true)
 }
 
 // How many segments, or targets, follow.
-fn read_count(sheet: &[u8], at: usize) -> GotNumber
+fn read_count(sheet: &[u8], at: usize) -> Result<Read<usize>, Refusal>
     ensures { NumberIs sheet.now 4097 result (sheets.count (drop at sheet.now)) }
 {
-    match read_number(sheet, at) {
-        GotNumber::Refused(cause) => GotNumber::Refused(cause),
-        GotNumber::Read(n, next) => {
-            if 4096 < n {
-                return GotNumber::Refused(Refusal::BadSheet);
-            }
-            GotNumber::Read(n, next)
-        }
+    let count = read_number(sheet, at)?;
+    if 4096 < count.value {
+        return Err(Refusal::BadSheet);
     }
+    Ok(count)
 }
 
 // Whether each byte is from 33 to 126.
 fn is_printable(bytes: &[u8]) -> bool
     ensures { result ≡ sheets.printable bytes.now }
 {
-    let mut i = 0;
-    while i < bytes.len() {
-        if bytes[i] < 33 {
-            return false;
-        }
-        if 126 < bytes[i] {
-            return false;
-        }
-        i += 1;
-    }
-    true
+    bytes.iter().all(|byte| (33..=126).contains(byte))
 }
 
 // A name of 0 to 32 bytes, after its length.
-fn read_name(sheet: &[u8], at: usize) -> GotName
+fn read_name(sheet: &[u8], at: usize) -> Result<Read<Span>, Refusal>
     ensures { NameIs sheet.now result (sheets.name (drop at sheet.now)) }
 {
-    match read_number(sheet, at) {
-        GotNumber::Refused(cause) => GotName::Refused(cause),
-        GotNumber::Read(len, from) => {
-            if 32 < len {
-                return GotName::Refused(Refusal::BadSheet);
-            }
-            let end = from + len;
-            if sheet.len() < end {
-                return GotName::Refused(Refusal::BadSheet);
-            }
-            if is_printable(&sheet[from..end]) {
-                return GotName::Read(Span { at: from, len: len });
-            }
-            GotName::Refused(Refusal::BadSheet)
-        }
+    let len = read_number(sheet, at)?;
+    if 32 < len.value {
+        return Err(Refusal::BadSheet);
     }
+    let end = len.next + len.value;
+    let Some(name) = sheet.get(len.next..end) else {
+        return Err(Refusal::BadSheet);
+    };
+    if !is_printable(name) {
+        return Err(Refusal::BadSheet);
+    }
+    Ok(Read {
+        value: Span {
+            at: len.next,
+            len: len.value,
+        },
+        next: end,
+    })
 }
 
-// A float by its bits, with the place after them.
-fn float_value(word: u32, next: usize) -> GotValue
-    ensures { result ≡ float_read word next }
+// A word of four bytes.
+fn read_word(sheet: &[u8], at: usize) -> Result<Read<u32>, Refusal>
+    requires { at ≤ length sheet.now }
+    ensures { WordIs sheet.now result (word (drop at sheet.now)) }
 {
-    // the exponent is not that of the infinities and NaNs
-    if word % 0x8000_0000 < 0x7F80_0000 {
-        return GotValue::Read(Value::Float(float::f32_from_word(word)), next);
+    if sheet.len() - at < 4 {
+        return Err(Refusal::BadSheet);
     }
-    GotValue::Refused(Refusal::NotFinite)
+    Ok(Read {
+        value: base::bytes::read_u32(sheet, at),
+        next: at + 4,
+    })
+}
+
+// A float by its bits.
+fn read_float(sheet: &[u8], at: usize) -> Result<Read<Value>, Refusal>
+    requires { at ≤ length sheet.now }
+    ensures { ValueIs sheet.now result (sheets.value_of 1 (drop at sheet.now)) }
+{
+    let word = read_word(sheet, at)?;
+    let float = float::f32_from_word(word.value);
+    if !float.is_finite() {
+        return Err(Refusal::NotFinite);
+    }
+    Ok(Read {
+        value: Value::Float(float),
+        next: word.next,
+    })
 }
 
 // A text after its length, at most 12 bytes: the float that it stands for.
-fn read_text(sheet: &[u8], at: usize) -> GotValue
+fn read_text(sheet: &[u8], at: usize) -> Result<Read<Value>, Refusal>
     ensures { ValueIs sheet.now result (sheets.text (drop at sheet.now)) }
 {
-    if sheet.len() <= at {
-        return GotValue::Refused(Refusal::BadSheet);
-    }
-    let len = sheet[at] as usize;
+    let Some(&len) = sheet.get(at) else {
+        return Err(Refusal::BadSheet);
+    };
     if 12 < len {
-        return GotValue::Refused(Refusal::LongText);
+        return Err(Refusal::LongText);
     }
-    let from = at + 1;
-    let end = from + len;
-    if sheet.len() < end {
-        return GotValue::Refused(Refusal::BadSheet);
-    }
-    GotValue::Read(Value::Float(decimal::text_to_f32(&sheet[from..end])), end)
+    let end = at + 1 + usize::from(len);
+    let Some(text) = sheet.get(at + 1..end) else {
+        return Err(Refusal::BadSheet);
+    };
+    Ok(Read {
+        value: Value::Float(decimal::text_to_f32(text)),
+        next: end,
+    })
 }
 
 // A value: kind 0 and an i32, 1 and the bits of an f32, 2 alone, or 3 and a text.
-fn read_value(sheet: &[u8], at: usize) -> GotValue
+fn read_value(sheet: &[u8], at: usize) -> Result<Read<Value>, Refusal>
     ensures { ValueIs sheet.now result (sheets.value (drop at sheet.now)) }
 {
-    if sheet.len() <= at {
-        return GotValue::Refused(Refusal::BadSheet);
-    }
-    let kind = sheet[at];
+    let Some(&kind) = sheet.get(at) else {
+        return Err(Refusal::BadSheet);
+    };
     let from = at + 1;
-    if kind == 2 {
-        return GotValue::Read(Value::Absent, from);
-    }
-    if 2 < kind {
-        if kind == 3 {
-            return read_text(sheet, from);
+    match kind {
+        0 => {
+            let word = read_word(sheet, from)?;
+            Ok(Read {
+                value: Value::Int(word.value.cast_signed()),
+                next: word.next,
+            })
         }
-        return GotValue::Refused(Refusal::BadSheet);
-    }
-    if sheet.len() - from < 4 {
-        return GotValue::Refused(Refusal::BadSheet);
-    }
-    let word = base::bytes::read_u32(sheet, from);
-    if kind == 0 {
-        return GotValue::Read(Value::Int(base::words::word_to_i32(word)), from + 4);
-    }
-    float_value(word, from + 4)
-}
-
-// The rest of a segment, after its name.
-fn read_after_name(sheet: &[u8], name: Span, count: usize) -> GotSegment
-    requires { name.at + name.len ≤ length sheet.now }
-    ensures { SegmentIs sheet.now count result
-        (sheets.segment_after count (bytes_at sheet.now name)
-        (drop (name.at + name.len) sheet.now)) }
-{
-    let at = name.at + name.len;
-    match read_value(sheet, at) {
-        GotValue::Refused(cause) => GotSegment::Refused(cause),
-        GotValue::Read(end, place) => match read_number(sheet, place) {
-            GotNumber::Refused(cause) => GotSegment::Refused(cause),
-            GotNumber::Read(follower, next) => {
-                if count < follower {
-                    return GotSegment::Refused(Refusal::BadSheet);
-                }
-                GotSegment::Read(
-                    Segment {
-                        name: name,
-                        end: end,
-                        follower: follower,
-                    },
-                    next,
-                )
-            }
-        },
+        1 => read_float(sheet, from),
+        2 => Ok(Read {
+            value: Value::Absent,
+            next: from,
+        }),
+        3 => read_text(sheet, from),
+        _ => Err(Refusal::BadSheet),
     }
 }
 
 // A segment of a sheet with so many segments.
-fn read_segment(sheet: &[u8], at: usize, count: usize) -> GotSegment
+fn read_segment(sheet: &[u8], at: usize, count: usize) -> Result<Read<Segment>, Refusal>
     ensures { SegmentIs sheet.now count result (sheets.segment count (drop at sheet.now)) }
 {
-    match read_name(sheet, at) {
-        GotName::Refused(cause) => GotSegment::Refused(cause),
-        GotName::Read(name) => read_after_name(sheet, name, count),
+    let name = read_name(sheet, at)?;
+    let end = read_value(sheet, name.next)?;
+    let follower = read_number(sheet, end.next)?;
+    if count < follower.value {
+        return Err(Refusal::BadSheet);
     }
+    let segment = Segment {
+        name: name.value,
+        end: end.value,
+        follower: follower.value,
+    };
+    Ok(Read {
+        value: segment,
+        next: follower.next,
+    })
 }
 
 // A target.
-fn read_target(sheet: &[u8], at: usize) -> GotTarget
+fn read_target(sheet: &[u8], at: usize) -> Result<Read<Target>, Refusal>
     ensures { TargetIs sheet.now result (sheets.target (drop at sheet.now)) }
 {
-    match read_value(sheet, at) {
-        GotValue::Refused(cause) => GotTarget::Refused(cause),
-        GotValue::Read(pos, place) => match read_value(sheet, place) {
-            GotValue::Refused(cause) => GotTarget::Refused(cause),
-            GotValue::Read(f0, next) => GotTarget::Read(Target { pos: pos, f0: f0 }, next),
+    let pos = read_value(sheet, at)?;
+    let f0 = read_value(sheet, pos.next)?;
+    Ok(Read {
+        value: Target {
+            pos: pos.value,
+            f0: f0.value,
         },
+        next: f0.next,
+    })
+}
+
+// What a sheet has many of: a segment, or a target.
+trait Item: Copy {
+    // what it means, and the definition's reading of one where so many segments are in the sheet
+    ghost Meaning: { Type 0 };
+
+    ghost meaning: { List ℕ → Self → Meaning };
+
+    ghost one: { ℕ → List ℕ → Got Meaning };
+
+    // One of them, of a sheet with so many segments.
+    fn read(sheet: &[u8], at: usize, count: usize) -> Result<Read<Self>, Refusal>
+        ensures { Agrees sheet.now (meaning sheet.now) (λ x. Unit) (says result)
+            (one count (drop at sheet.now)) };
+}
+
+impl Item for Segment {
+    ghost Meaning = { sheets.SegmentRead };
+
+    ghost meaning = { segment_read };
+
+    ghost one = { sheets.segment };
+
+    fn read(sheet: &[u8], at: usize, count: usize) -> Result<Read<Segment>, Refusal> {
+        read_segment(sheet, at, count)
     }
 }
 
-// As many segments as the sheet has, from a place on.
-fn skip_segments(sheet: &[u8], at: usize, count: usize) -> GotItems
-    requires { at ≤ length sheet.now }
-    ensures { ItemsIs sheet.now result
-        (standing count at (sheets.repeated (sheets.segment count) count (drop at sheet.now))) }
-{
-    let mut place = at;
-    let mut left = count;
-    while 0 < left {
-        match read_segment(sheet, place, count) {
-            GotSegment::Refused(cause) => return GotItems::Refused(cause),
-            GotSegment::Read(_, next) => place = next,
-        }
-        left -= 1;
+impl Item for Target {
+    ghost Meaning = { Self };
+
+    ghost meaning = { λ sheet t. t };
+
+    ghost one = { λ n. sheets.target };
+
+    fn read(sheet: &[u8], at: usize, _count: usize) -> Result<Read<Target>, Refusal> {
+        read_target(sheet, at)
     }
-    GotItems::Read(
-        Items {
-            count: count,
-            at: at,
+}
+
+// So many segments, or targets, after their count.
+fn read_items<T: Item>(sheet: &[u8], at: usize) -> Result<Read<Items>, Refusal>
+    ensures { ItemsIs sheet.now result
+        (mapped (items_in sheet.now) (sheets.counted T.one (drop at sheet.now))) }
+{
+    let count = read_count(sheet, at)?;
+    let mut place = count.next;
+    for _ in 0..count.value {
+        place = T::read(sheet, place, count.value)?.next;
+    }
+    Ok(Read {
+        value: Items {
+            count: count.value,
+            at: count.next,
         },
-        place,
-    )
-}
-
-// So many targets, from a place on.
-fn skip_targets(sheet: &[u8], at: usize, count: usize) -> GotItems
-    requires { (at ≤ length sheet.now) × (count ≤ 4096) }
-    ensures { ItemsIs sheet.now result
-        (standing count at (sheets.repeated sheets.target count (drop at sheet.now))) }
-{
-    let mut place = at;
-    // each has two values
-    let mut left = 2 * count;
-    while 0 < left {
-        match read_value(sheet, place) {
-            GotValue::Refused(cause) => return GotItems::Refused(cause),
-            GotValue::Read(_, next) => place = next,
-        }
-        left -= 1;
-    }
-    GotItems::Read(
-        Items {
-            count: count,
-            at: at,
-        },
-        place,
-    )
-}
-
-// The segments, after their count.
-fn read_segments(sheet: &[u8], at: usize) -> GotItems
-    ensures { ItemsIs sheet.now result
-        (mapped (items_in sheet.now) (sheets.counted sheets.segment (drop at sheet.now))) }
-{
-    match read_count(sheet, at) {
-        GotNumber::Refused(cause) => GotItems::Refused(cause),
-        GotNumber::Read(count, from) => skip_segments(sheet, from, count),
-    }
-}
-
-// The targets, after their count.
-fn read_targets(sheet: &[u8], at: usize) -> GotItems
-    ensures { ItemsIs sheet.now result
-        (mapped (items_in sheet.now) (sheets.counted (λ n. sheets.target) (drop at sheet.now))) }
-{
-    match read_count(sheet, at) {
-        GotNumber::Refused(cause) => GotItems::Refused(cause),
-        GotNumber::Read(count, from) => skip_targets(sheet, from, count),
-    }
+        next: place,
+    })
 }
 
 // Reads a sheet: its parts, or the first 8, 9 or 17.
-pub fn read_sheet(sheet: &[u8]) -> SheetAnswer
+pub fn read_sheet(sheet: &[u8]) -> Result<Places, Refusal>
     ensures { (result ≡ answer_in (sheet_places sheet.now)) ×
         (sheet_number result ≡ answer_of (sheets.sheet_refusal sheet.now)) }
 {
-    match read_segments(sheet, 0) {
-        GotItems::Refused(cause) => SheetAnswer::Refused(cause),
-        GotItems::Read(segments, next) => match read_targets(sheet, next) {
-            GotItems::Refused(cause) => SheetAnswer::Refused(cause),
-            GotItems::Read(targets, end) => {
-                if end < sheet.len() {
-                    return SheetAnswer::Refused(Refusal::BadSheet);
-                }
-                SheetAnswer::Read(Places {
-                    segments: segments,
-                    targets: targets,
-                })
-            }
-        },
+    let segments = read_items::<Segment>(sheet, 0)?;
+    let targets = read_items::<Target>(sheet, segments.next)?;
+    let end = targets.next;
+    if end < sheet.len() {
+        return Err(Refusal::BadSheet);
     }
-}
-
-// An empty segment, for an answer that a sheet that was read does not give.
-fn no_segment(at: usize) -> SegmentStep {
-    SegmentStep {
-        segment: Segment {
-            name: Span { at: 0, len: 0 },
-            end: Value::Absent,
-            follower: 0,
-        },
-        next: at,
-    }
-}
-
-// An empty target, for an answer that a sheet that was read does not give.
-fn no_target(at: usize) -> TargetStep {
-    TargetStep {
-        target: Target {
-            pos: Value::Absent,
-            f0: Value::Absent,
-        },
-        next: at,
-    }
+    Ok(Places {
+        segments: segments.value,
+        targets: targets.value,
+    })
 }
 
 // The segment at a place that the reading of the sheet reached.
-pub fn segment_at(sheet: &[u8], at: usize, count: usize) -> SegmentStep
+pub fn segment_at(sheet: &[u8], at: usize, count: usize) -> Read<Segment>
     requires { is_read (sheets.segment count (drop at sheet.now)) ≡ true }
-    ensures { SegmentSaid sheet.now count (reads result.segment result.next)
+    ensures { SegmentSaid sheet.now count (reads result.value result.next)
         (sheets.segment count (drop at sheet.now)) }
 {
-    match read_segment(sheet, at, count) {
-        GotSegment::Refused(_) => no_segment(at),
-        GotSegment::Read(segment, next) => SegmentStep {
-            segment: segment,
-            next: next,
-        },
-    }
+    read_segment(sheet, at, count).unwrap()
 }
 
 // The target at a place that the reading of the sheet reached.
-pub fn target_at(sheet: &[u8], at: usize) -> TargetStep
+pub fn target_at(sheet: &[u8], at: usize) -> Read<Target>
     requires { is_read (sheets.target (drop at sheet.now)) ≡ true }
-    ensures { TargetSaid sheet.now (reads result.target result.next) (sheets.target (drop at sheet.now)) }
+    ensures { TargetSaid sheet.now (reads result.value result.next) (sheets.target (drop at sheet.now)) }
 {
-    match read_target(sheet, at) {
-        GotTarget::Refused(_) => no_target(at),
-        GotTarget::Read(target, next) => TargetStep {
-            target: target,
-            next: next,
-        },
-    }
+    read_target(sheet, at).unwrap()
 }
 
 // Where the name stands of the segment with a number from 1; nowhere for 0, or a number above the
 // count.
 pub fn name_of(sheet: &[u8], places: Places, number: usize) -> Span
-    requires { answer_in (sheet_places sheet.now) ≡ SheetAnswer.Read places }
+    requires { answer_in (sheet_places sheet.now) ≡ Ok places }
     ensures { (bytes_at sheet.now result ≡ name_of (sheets.sheet_of sheet.now).segments number) ×
         (result.at + result.len ≤ length sheet.now) }
 {
     let segments = places.segments;
-    let count = segments.count;
+    if number == 0 || segments.count < number {
+        return Span { at: 0, len: 0 };
+    }
     let mut at = segments.at;
-    if number == 0 {
-        return Span { at: 0, len: 0 };
+    for _ in 1..number {
+        at = segment_at(sheet, at, segments.count).next;
     }
-    if count < number {
-        return Span { at: 0, len: 0 };
-    }
-    let mut left = number;
-    while 1 < left {
-        let step = segment_at(sheet, at, count);
-        at = step.next;
-        left -= 1;
-    }
-    let found = segment_at(sheet, at, count);
-    let segment = found.segment;
-    segment.name
+    let found = segment_at(sheet, at, segments.count);
+    found.value.name
 }

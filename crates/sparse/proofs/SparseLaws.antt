@@ -1,8 +1,8 @@
 -- A sparse index, stored and searched.
+use Rattle.std.specs.Prelude.{None}
 use mathlib.Core.Path.{◌≡◌, refl, sym, ap, subst, ◌∙◌}
 use mathlib.Core.Bool.{Bool, true, false}
 use mathlib.Core.List.{List, [], ◌∷◌, ◌++◌}
-use mathlib.Core.Option.{none}
 use Prim.Native.Nat.{ℕ, zero, suc, ◌+◌, ◌-◌, ◌*◌, ◌/◌, ◌^◌, ◌≤◌, ◌<◌}
 use native.Mathlib.Nat.{mod-eq_of_lt, zero-mul, mul-suc, mul-zero, mul-le-mul_left}
 use native.Mathlib.Numerals.{add-one}
@@ -15,7 +15,7 @@ use Rattle.base.proofs.ByteLaws.{little_endian-same, little_endian-sets}
 use Rattle.base.proofs.BoundLaws.{nil, cons}
 use Rattle.base.proofs.CaseLaws.{by_order}
 use Rattle.text.specs.Names.{before, order_of}
-use Rattle.text.specs.declared.Order.{Order}
+use Rattle.std.specs.declared.cmp.Ordering.{Ordering}
 use Rattle.voice.specs.Voice.{Placed, entry_at, next_entry, entries_from, lookup, sort}
 use Rattle.index.specs.Index.{ascending, end_of, first_of}
 use Rattle.index.proofs.OrderLaws.{before-neither, ascending-rest, lookup-earlier}
@@ -182,7 +182,7 @@ from_first stride n ps = ap (λ (k : ℕ). lookup n (drop k ps)) (mul-zero strid
 -- ---- the walk from a place on
 
 -- the name x of the entry at a place was compared
-pub compared_at : (bs : List ℕ) (at : ℕ) (x n : List ℕ) (o v : Order) → o ≡ order_of x n → o ≡ v → x ≡ (entry_at bs at).name → order_of (entry_at bs at).name n ≡ v
+pub compared_at : (bs : List ℕ) (at : ℕ) (x n : List ℕ) (o v : Ordering) → o ≡ order_of x n → o ≡ v → x ≡ (entry_at bs at).name → order_of (entry_at bs at).name n ≡ v
 compared_at bs at x n o v a b c = compared x (entry_at bs at) (entry_at bs at) n o v a b c refl
 
 module _ (bs : List ℕ) (n at : ℕ) (h : 0 < n) (w : (entries_from n bs at).whole ≡ true) (u : ascending (entries_from n bs at).list ≡ true) where
@@ -192,15 +192,15 @@ module _ (bs : List ℕ) (n at : ℕ) (h : 0 < n) (w : (entries_from n bs at).wh
   ascends : ascending (placed bs at ∷ rest) ≡ true
   ascends = ap ascending (sym (turn bs n at h w).list) ∙ u
 
-  pub walked_more : (next : ℕ) → next ≡ next_entry bs at → ascending (entries_from (n - 1) bs next).list ≡ true
-  walked_more next e = ap (λ (k : ℕ). ascending (entries_from (n - 1) bs k).list) e ∙ ascending-rest (placed bs at) rest ascends
+  pub walked_more : (m : ℕ) → m ≡ n - 1 → (next : ℕ) → next ≡ next_entry bs at → ascending (entries_from m bs next).list ≡ true
+  walked_more m d next e = rw (d, e) (ascending-rest (placed bs at) rest ascends)
 
   -- an entry that stands before a name is passed over
   pub walked-over : (name : List ℕ) → before (entry_at bs at).name name ≡ true → lookup name (placed bs at ∷ rest) ≡ lookup name rest
   walked-over name b = lookup-low name (placed bs at ∷ []) rest (cons b nil)
 
   -- an entry that stands after a name: the name is not there
-  pub walked-past : (name : List ℕ) → before name (entry_at bs at).name ≡ true → lookup name (placed bs at ∷ rest) ≡ none
+  pub walked-past : (name : List ℕ) → before name (entry_at bs at).name ≡ true → lookup name (placed bs at ∷ rest) ≡ None
   walked-past name b = lookup-earlier name (placed bs at ∷ rest) b ascends
 
 -- places that far apart have room for some entries, so the distance is not 0

@@ -9,8 +9,8 @@ ghost use Rattle.voice.specs.Voice as voices;
 ghost use Rattle.index.specs.Index.{Small, periods_of, found_of, first_of, ascending};
 ghost use Rattle.sparse.specs.Sparse.{Begins, SparseIndex};
 
-use index::{EntryPeriods, FoundEntry};
-use text::Order;
+use index::EntryPeriods;
+use std::cmp::Ordering;
 
 // How many entries lie from one place of a sparse index to the next, and how many places it has.
 #[derive(Clone, Copy)]
@@ -37,7 +37,7 @@ pub fn fill(entries: &[u8], count: usize, stride: usize, index: &mut [u8]) -> Sp
         base::bytes::put_u64(index, last, at as u64);
     }
     Spacing {
-        stride: stride,
+        stride,
         count: last + 1,
     }
 }
@@ -73,30 +73,32 @@ fn nearest_place(entries: &[u8], count: usize, by: Spacing, index: &[u8], name: 
 }
 
 // What `count` entries from a place on, whose names are in order, have under a name.
-fn find_from(entries: &[u8], from: usize, count: usize, name: &[u8]) -> FoundEntry
+fn find_from(entries: &[u8], from: usize, count: usize, name: &[u8]) -> Option<EntryPeriods>
     requires { ((entries_from count entries.now from).whole ≡ true) ×
         (ascending (entries_from count entries.now from).list ≡ true) }
     ensures { result ≡ found_of
         (voices.lookup name.now (entries_from count entries.now from).list) }
 {
     let mut at = from;
-    let mut left = count;
-    while 0 < left {
+    for _ in 0..count {
         match text::compare(index::name_at(entries, at), name) {
-            Order::Before => {
-                at = index::next_entry(entries, at);
-                left -= 1;
-            }
-            Order::Same => return FoundEntry::Found(index::periods_at(entries, at)),
-            Order::After => return FoundEntry::Missing,
+            Ordering::Less => at = index::next_entry(entries, at),
+            Ordering::Equal => return Some(index::periods_at(entries, at)),
+            Ordering::Greater => return None,
         }
     }
-    FoundEntry::Missing
+    None
 }
 
 // What an index in order has under a name: by a search that halves the sparse index, and a walk from
 // the place it comes to.
-pub fn find(entries: &[u8], count: usize, by: Spacing, index: &[u8], name: &[u8]) -> FoundEntry
+pub fn find(
+    entries: &[u8],
+    count: usize,
+    by: Spacing,
+    index: &[u8],
+    name: &[u8],
+) -> Option<EntryPeriods>
     requires { SparseIndex entries.now count by index.now }
     ensures { result ≡ found_of (voices.lookup name.now (entries_from count entries.now 0).list) }
 {

@@ -17,7 +17,7 @@ fn put_text(voice: &[u8], sheet: &[u8], out: &mut [u8]) -> usize
     ensures prefix_len { IsPrefixLen result out.new }
 {
     if transcript::is_too_long(voice, sheet) {
-        return lines::put_refused(refusal::number(Refusal::ShortBuffer), out);
+        return lines::put_refused(u32::from(Refusal::ShortBuffer), out);
     }
     let mut index = [0u8; 8192];
     let mut marks = [0u8; 4096];

@@ -1,8 +1,8 @@
 -- 16 comes from a missing pair alone: what refuses a voice, a sheet or the marks has another number.
+use Rattle.std.specs.Prelude.{None, Option, Some}
 use mathlib.Core.Path.{◌≡◌, refl}
 use mathlib.Core.Bool.{Bool, true, false, ◌&&◌, ◌||◌, not}
 use mathlib.Core.List.{List, [], ◌∷◌}
-use mathlib.Core.Option.{Option, none, some}
 use Prim.Native.Nat.{ℕ, zero, suc, ◌+◌, ◌-◌, ◌*◌}
 use native.Mathlib.Omega.{arith}
 use lib.Dec.{ltb, leb, eqb}
@@ -36,7 +36,7 @@ use Rattle.call.proofs.CallLaws.{two_segments}
 abbrev pub Other : Option Refusal → Type 0
 Other u = answer_of u ≡ 16 → ⊥
 
-pub not-other : Other (some MissingPair) → ⊥
+pub not-other : Other (Some MissingPair) → ⊥
 not-other h = h refl
 
 either : (t : Bool) (a b : Option Refusal) → Other a → Other b → Other (pick t a b)
@@ -44,15 +44,15 @@ either true a b h k = h
 either false a b h k = k
 
 next : (a b : Option Refusal) → Other a → Other b → Other (or_next a b)
-next none b h k = k
-next (some r) b h k = h
+next None b h k = k
+next (Some r) b h k = h
 
 -- ---- the voice
 
 failing : (cs : List (Bool × Refusal)) → Each (λ (c : Bool × Refusal). number_of c.1 ≡ 16 → ⊥) cs → Other (first_failing cs)
 unfolding first_failing
 failing [] nil = omega arith
-failing (c ∷ cs) (cons h k) = either c.0 (first_failing cs) (some c.1) (failing cs k) h
+failing (c ∷ cs) (cons h k) = either c.0 (first_failing cs) (Some c.1) (failing cs k) h
 
 pub opening-other : (file : List ℕ) → Other (opening_refusal file)
 unfolding opening_refusal
@@ -156,19 +156,19 @@ sheet-other bs =
 ends-other : (us : List Unit) → Other (end_refusal us)
 unfolding end_refusal
 ends-other [] = omega arith
-ends-other (u ∷ us) = either (leb u.target_end limit) (end_refusal us) (some PastLimit) (ends-other us) (omega arith)
+ends-other (u ∷ us) = either (leb u.target_end limit) (end_refusal us) (Some PastLimit) (ends-other us) (omega arith)
 
 natural-other : (left : ℕ) (ms : List ℕ) → Other (mark_refusal left ms)
 unfolding mark_refusal
 natural-other left [] = omega arith
 natural-other zero (m ∷ ms) = omega arith
-natural-other (suc n) (m ∷ ms) = either (leb m limit) (mark_refusal n ms) (some PastLimit) (natural-other n ms) (omega arith)
+natural-other (suc n) (m ∷ ms) = either (leb m limit) (mark_refusal n ms) (Some PastLimit) (natural-other n ms) (omega arith)
 
 climb-other : (c : Contour) (n : ℕ) (time : Float) → Other (climb c n time).refusal
 unfolding climb
 climb-other c zero time = by (goes_on c time)
   where
-    by : (t : Bool) → let x : Climb = elim t [ false ↦ ends none time 0 | true ↦ ends (some TooManyMarks) time 0 ] in Other x.refusal
+    by : (t : Bool) → let x : Climb = elim t [ false ↦ ends None time 0 | true ↦ ends (Some TooManyMarks) time 0 ] in Other x.refusal
     by true = omega arith
     by false = omega arith
 climb-other c (suc n) time = by (goes_on c time) (leb (mark_at c (next_time c time)) limit) (climb-other c n (next_time c time))
@@ -176,8 +176,8 @@ climb-other c (suc n) time = by (goes_on c time) (leb (mark_at c (next_time c ti
     by : (t u : Bool) → Other (climb c n (next_time c time)).refusal
         → let x : Climb =
         elim t [
-          | false ↦ ends none time (suc n)
-          | true ↦ elim u [ false ↦ ends (some PastLimit) time (suc n) | true ↦ with_mark (mark_at c (next_time c time)) (climb c n (next_time c time)) ]
+          | false ↦ ends None time (suc n)
+          | true ↦ elim u [ false ↦ ends (Some PastLimit) time (suc n) | true ↦ with_mark (mark_at c (next_time c time)) (climb c n (next_time c time)) ]
         ] in
         Other x.refusal
     by false u h = omega arith
@@ -191,8 +191,8 @@ to-other rate s position f0 = by (ne s.time position && lt s.position position) 
     by : (t u : Bool) → Other (climb (contour_to rate s position f0) s.left s.time).refusal
         → let x : Climb =
         elim t [
-          | false ↦ ends none s.time s.left
-          | true ↦ elim u [ false ↦ ends (some BadSlope) s.time s.left | true ↦ climb (contour_to rate s position f0) s.left s.time ]
+          | false ↦ ends None s.time s.left
+          | true ↦ elim u [ false ↦ ends (Some BadSlope) s.time s.left | true ↦ climb (contour_to rate s position f0) s.left s.time ]
         ] in
         Other x.refusal
     by false u h = omega arith
@@ -200,8 +200,8 @@ to-other rate s position f0 = by (ne s.time position && lt s.position position) 
     by true true h = h
 
 then-marks : (r : Option Refusal) (ms : List ℕ) (rest : Made) → Other r → Other rest.refusal → Other (then_marks r ms rest).refusal
-then-marks none ms rest h k = k
-then-marks (some r) ms rest h k = h
+then-marks None ms rest h k = k
+then-marks (Some r) ms rest h k = h
 
 marks-other : (rate : Float) (s : Stage) (ts : List Target) → Other (marks_from rate s ts).refusal
 unfolding marks_from

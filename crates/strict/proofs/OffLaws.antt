@@ -1,8 +1,8 @@
 -- What a call answers and leaves reads strict by its refusal alone.
+use Rattle.std.specs.Prelude.{None, Option, Some}
 use mathlib.Core.Path.{◌≡◌, refl, ap, ◌∙◌}
 use mathlib.Core.Bool.{Bool, true, false, not}
 use mathlib.Core.List.{List}
-use mathlib.Core.Option.{Option, none, some}
 use Prim.Native.Nat.{ℕ}
 use lib.ListN.{length}
 use Rattle.base.specs.Choice.{pick}
@@ -26,12 +26,12 @@ use Rattle.strict.specs.Claims.{strictly}
 
 -- by what refuses the voice, the sheet and the plan
 check-by : (a b : Option Refusal) (found : Bool) (p : Option Refusal)
-    → (or_next a (or_next b (or_next (pick (not found) (some MissingPair) none) p)) ≡ some MissingPair → ⊥)
-    → or_next a (or_next b (or_next (pick (not found) (some MissingPair) none) p)) ≡ or_next a (or_next b p)
-check-by (some x) b t p h = refl
-check-by none (some y) t p h = refl
-check-by none none true p h = refl
-check-by none none false p h = absurd (h refl)
+    → (or_next a (or_next b (or_next (pick (not found) (Some MissingPair) None) p)) ≡ Some MissingPair → ⊥)
+    → or_next a (or_next b (or_next (pick (not found) (Some MissingPair) None) p)) ≡ or_next a (or_next b p)
+check-by (Some x) b t p h = refl
+check-by None (Some y) t p h = refl
+check-by None None true p h = refl
+check-by None None false p h = absurd (h refl)
 
 module _ (file sheet : List ℕ) (o : Settings) where
   abbrev on : Settings
@@ -40,7 +40,7 @@ module _ (file sheet : List ℕ) (o : Settings) where
   abbrev off : Settings
   off = strictly false o
 
-  pub check-same : (check_refusal file sheet on ≡ some MissingPair → ⊥) → check_refusal file sheet on ≡ check_refusal file sheet off
+  pub check-same : (check_refusal file sheet on ≡ Some MissingPair → ⊥) → check_refusal file sheet on ≡ check_refusal file sheet off
   unfolding check_refusal read_refusal missing_refusal plan_of
   check-same h =
       check-by (opening_refusal file) (sheet_refusal sheet) (tried_found (voice_of file) o.fold (sheet_of sheet).segments) (plan_of (voice_of file) (sheet_of sheet) o).refusal h
@@ -50,12 +50,12 @@ module _ (file sheet : List ℕ) (o : Settings) where
   module _ (same : check_refusal file sheet on ≡ check_refusal file sheet off) where
     call_same : (b : Buffers) → call_refusal file sheet on b ≡ call_refusal file sheet off b
     unfolding call_refusal fits need_of periods_taken plan_of
-    call_same b = ap (λ (r : Option Refusal). or_next r (pick (fits (voice_of file) (sheet_of sheet) o b) none (some ShortBuffer))) same
+    call_same b = ap (λ (r : Option Refusal). or_next r (pick (fits (voice_of file) (sheet_of sheet) o b) None (Some ShortBuffer))) same
 
     answer-same : (r : Option Refusal) → answer_by (voice_of file) (sheet_of sheet) on r ≡ answer_by (voice_of file) (sheet_of sheet) off r
     unfolding summary_of fresh_of periods_taken plan_of
-    answer-same none = refl
-    answer-same (some r) = refl
+    answer-same None = refl
+    answer-same (Some r) = refl
 
     pub planned-same : (b : Buffers) → planned_of file sheet on b ≡ planned_of file sheet off b
     unfolding planned_of

@@ -1,9 +1,9 @@
 -- Whether each pair finds a name that it tries, pair by pair.
+use Rattle.std.specs.Prelude.{None, Option, Some}
 use mathlib.Core.Path.{◌≡◌, refl, sym, ap, ◌∙◌}
 use mathlib.Core.Bool.{Bool, true, false, ◌&&◌, true≢false}
 use mathlib.Core.List.{List, [], ◌∷◌}
 use mathlib.Core.Logic.{inl, inr}
-use mathlib.Core.Option.{Option, none, some}
 use Prim.Native.Nat.{ℕ}
 use Rattle.base.specs.Choice.{pick}
 use Rattle.base.specs.Lists.{or_next}
@@ -54,9 +54,9 @@ module _ (find : SegmentRead → SegmentRead → Option Entry) where
   all-missing [] h = absurd (true≢false h)
   all-missing (s ∷ rs) h = from-missing s rs h
 
-is_none : (o : Option Entry) → is_some o ≡ false → o ≡ none
-is_none none e = refl
-is_none (some x) e = absurd (true≢false e)
+is_none : (o : Option Entry) → is_some o ≡ false → o ≡ None
+is_none None e = refl
+is_none (Some x) e = absurd (true≢false e)
 
 -- ---- by name
 
@@ -66,20 +66,20 @@ stands-some [] e s = elim s [ ]
 stands-some (p ∷ ps) e (stands.here q) = rw (q, same_refl p.entry.name) refl
 stands-some (p ∷ ps) e (stands.there m) = by (same p.entry.name e.name) (stands-some ps e m)
   where
-    by : (t : Bool) → is_some (lookup e.name ps) ≡ true → is_some (pick t (some p.entry) (lookup e.name ps)) ≡ true
+    by : (t : Bool) → is_some (lookup e.name ps) ≡ true → is_some (pick t (Some p.entry) (lookup e.name ps)) ≡ true
     by true h = refl
     by false h = h
 
 module _ (v : Voice) (n : List ℕ) where
-  none_then : lookup n v.entries ≡ none → NoEntry v n
+  none_then : lookup n v.entries ≡ None → NoEntry v n
   none_then e x s q = true≢false (sym (stands-some v.entries x s) ∙ ap (λ (m : List ℕ). is_some (lookup m v.entries)) q ∙ ap is_some e)
 
-  then-none : NoEntry v n → lookup n v.entries ≡ none
+  then-none : NoEntry v n → lookup n v.entries ≡ None
   then-none h = by (lookup n v.entries) refl
     where
-      by : (o : Option Entry) → lookup n v.entries ≡ o → o ≡ none
-      by none e = refl
-      by (some x) e = let f = lookup-finds n v.entries x e in absurd (h x f.stands f.named)
+      by : (o : Option Entry) → lookup n v.entries ≡ o → o ≡ None
+      by None e = refl
+      by (Some x) e = let f = lookup-finds n v.entries x e in absurd (h x f.stands f.named)
 
 -- ---- by the names that a pair tries
 
@@ -100,21 +100,21 @@ module _ (v : Voice) (fold : Bool) (ss : List SegmentRead) where
       by true e =
           let a = then-none v _ l.not_first in
           let b = then-none v _ l.not_plain in
-          let none : tried_entry v (folded fold ss) l.left l.right ≡ none = rw (a, b) refl in
-          absurd (true≢false (sym (all-each _ (folded fold ss) e l.left l.right l.adjacent) ∙ ap is_some none))
+          let misses : tried_entry v (folded fold ss) l.left l.right ≡ None = rw (a, b) refl in
+          absurd (true≢false (sym (all-each _ (folded fold ss) e l.left l.right l.adjacent) ∙ ap is_some misses))
 
 -- an entry that a pair finds bears a name that it tries
 module _ (v : Voice) (ss : List SegmentRead) (left right : SegmentRead) where
   found-by : (a b : Option Entry) → first_entry v ss left right ≡ a → lookup (plain_name left.name right.name) v.entries ≡ b
       → is_some (or_next a b) ≡ true → ByName v ss left right
   unfolding entry_of
-  found-by (some e) b p q h =
+  found-by (Some e) b p q h =
       let f = lookup-finds (first_tried ss left right) v.entries e p in
       record { entry = e; selected = rw p refl; stands = f.stands; named = inl f.named }
-  found-by none (some e) p q h =
+  found-by None (Some e) p q h =
       let f = lookup-finds (plain_name left.name right.name) v.entries e q in
       record { entry = e; selected = rw (p, q) refl; stands = f.stands; named = inr f.named }
-  found-by none none p q h = absurd (true≢false (sym h))
+  found-by None None p q h = absurd (true≢false (sym h))
 
 pub all-by-name : (v : Voice) (fold : Bool) (ss : List SegmentRead) → tried_found v fold ss ≡ true → (left right : SegmentRead)
     → Adjacent left right (folded fold ss) → ByName v (folded fold ss) left right

@@ -1,8 +1,8 @@
 -- A1: all of it, over the contracts.
+use Rattle.std.specs.Prelude.{Err, None, Option, Some}
 use mathlib.Core.Path.{◌≡◌, refl, sym, ap, subst, ◌∙◌}
 use mathlib.Core.Bool.{Bool, true, false}
 use mathlib.Core.List.{List, [], ◌∷◌}
-use mathlib.Core.Option.{Option, none, some}
 use Prim.Native.Nat.{ℕ, ◌*◌}
 use native.Mathlib.Omega.{arith}
 use lib.Dec.{leb}
@@ -21,7 +21,6 @@ use Rattle.sheet.specs.Begins.{Begins}
 use Rattle.units.specs.Selecting.{first_tried_found}
 use Rattle.pairs.specs.Pairs.{tried_found}
 use Rattle.call.specs.declared.Settings.{Settings}
-use Rattle.call.specs.declared.Called.TheVariants.{Refused}
 use Rattle.call.specs.Call.{plan_of, missing_refusal, read_refusal, periods_taken, periods_of}
 use Rattle.call.specs.Buffers.{Buffers, need_of, fits, check_refusal, call_refusal, answer_by, planned_of, buffers_after}
 use Rattle.call.specs.SpokenCall.{SpokenCall, voice_in, sheet_in, periods_in}
@@ -45,7 +44,7 @@ use Rattle.strict.proofs.Causes.{Other, not-other, opening-other, sheet-other, p
 -- ---- what refuses with 16
 
 module _ (file sheet : List ℕ) (o : Settings) where
-  misses-then : Misses file sheet o → check_refusal file sheet o ≡ some MissingPair
+  misses-then : Misses file sheet o → check_refusal file sheet o ≡ Some MissingPair
   unfolding check_refusal
   misses-then m =
       let a = m.opens in
@@ -54,10 +53,10 @@ module _ (file sheet : List ℕ) (o : Settings) where
       rw (a, b, c) refl
 
   -- a cause of document 01's is not it
-  other : (r : Option Refusal) → Other r → r ≡ some MissingPair → ⊥
+  other : (r : Option Refusal) → Other r → r ≡ Some MissingPair → ⊥
   other r h e = not-other (subst Other e h)
 
-  misses-only : check_refusal file sheet o ≡ some MissingPair → Misses file sheet o
+  misses-only : check_refusal file sheet o ≡ Some MissingPair → Misses file sheet o
   unfolding check_refusal read_refusal
   misses-only e =
       by (opening_refusal file) refl (sheet_refusal sheet) refl (missing_refusal (voice_of file) (sheet_of sheet) o) refl e
@@ -66,60 +65,60 @@ module _ (file sheet : List ℕ) (o : Settings) where
       (lacking o.strict refl (tried_found (voice_of file) o.fold (sheet_of sheet).segments) refl)
     where
       lacking : (t : Bool) → o.strict ≡ t → (u : Bool) → tried_found (voice_of file) o.fold (sheet_of sheet).segments ≡ u
-          → (r : Refusal) → missing_refusal (voice_of file) (sheet_of sheet) o ≡ some r → opening_refusal file ≡ none → sheet_refusal sheet ≡ none → Misses file sheet o
+          → (r : Refusal) → missing_refusal (voice_of file) (sheet_of sheet) o ≡ Some r → opening_refusal file ≡ None → sheet_refusal sheet ≡ None → Misses file sheet o
       lacking true s false f r m a b = record { strict = s; opens = a; reads = b; lacks = lacks-pair (voice_of file) o.fold (sheet_of sheet).segments f }
       lacking true s true f r m a b =
-          absurd (let k = sym m ∙ missing-strict (voice_of file) (sheet_of sheet) o s ∙ ap (λ (x : Bool). pick x none (some MissingPair)) f in let z : ◌≡◌ {A = ℕ} 0 1 = cc in omega arith)
+          absurd (let k = sym m ∙ missing-strict (voice_of file) (sheet_of sheet) o s ∙ ap (λ (x : Bool). pick x None (Some MissingPair)) f in let z : ◌≡◌ {A = ℕ} 0 1 = cc in omega arith)
       lacking false s u f r m a b = absurd (let k = sym m ∙ missing-loose (voice_of file) (sheet_of sheet) o s in let z : ◌≡◌ {A = ℕ} 0 1 = cc in omega arith)
 
       by : (a : Option Refusal) → opening_refusal file ≡ a → (b : Option Refusal) → sheet_refusal sheet ≡ b → (c : Option Refusal) → missing_refusal (voice_of file) (sheet_of sheet) o ≡ c
-          → or_next a (or_next b (or_next c (plan_of (voice_of file) (sheet_of sheet) o).refusal)) ≡ some MissingPair
-          → (opening_refusal file ≡ some MissingPair → ⊥) → (sheet_refusal sheet ≡ some MissingPair → ⊥) → ((plan_of (voice_of file) (sheet_of sheet) o).refusal ≡ some MissingPair → ⊥)
-          → ((r : Refusal) → missing_refusal (voice_of file) (sheet_of sheet) o ≡ some r → opening_refusal file ≡ none → sheet_refusal sheet ≡ none → Misses file sheet o)
+          → or_next a (or_next b (or_next c (plan_of (voice_of file) (sheet_of sheet) o).refusal)) ≡ Some MissingPair
+          → (opening_refusal file ≡ Some MissingPair → ⊥) → (sheet_refusal sheet ≡ Some MissingPair → ⊥) → ((plan_of (voice_of file) (sheet_of sheet) o).refusal ≡ Some MissingPair → ⊥)
+          → ((r : Refusal) → missing_refusal (voice_of file) (sheet_of sheet) o ≡ Some r → opening_refusal file ≡ None → sheet_refusal sheet ≡ None → Misses file sheet o)
           → Misses file sheet o
-      by (some x) p b q c r e h k l m = absurd (h (p ∙ e))
-      by none p (some y) q c r e h k l m = absurd (k (q ∙ e))
-      by none p none q (some z) r e h k l m = m z r p q
-      by none p none q none r e h k l m = absurd (l e)
+      by (Some x) p b q c r e h k l m = absurd (h (p ∙ e))
+      by None p (Some y) q c r e h k l m = absurd (k (q ∙ e))
+      by None p None q (Some z) r e h k l m = m z r p q
+      by None p None q None r e h k l m = absurd (l e)
 
 -- 13 behind it is not it
-short-next : (a : Option Refusal) (t : Bool) → or_next a (pick t none (some ShortBuffer)) ≡ some MissingPair → a ≡ some MissingPair
-short-next none true e = absurd (let z : ◌≡◌ {A = ℕ} 0 1 = cc in omega arith)
-short-next none false e = absurd (let z : ◌≡◌ {A = ℕ} 0 1 = cc in omega arith)
-short-next (some x) t e = e
+short-next : (a : Option Refusal) (t : Bool) → or_next a (pick t None (Some ShortBuffer)) ≡ Some MissingPair → a ≡ Some MissingPair
+short-next None true e = absurd (let z : ◌≡◌ {A = ℕ} 0 1 = cc in omega arith)
+short-next None false e = absurd (let z : ◌≡◌ {A = ℕ} 0 1 = cc in omega arith)
+short-next (Some x) t e = e
 
 -- nor has another refusal its number
-sixteen : (u : Option Refusal) → answer_of u ≡ 16 → u ≡ some MissingPair
-sixteen none e = absurd (omega arith)
-sixteen (some BadMagic) e = absurd (omega arith)
-sixteen (some SectionCut) e = absurd (omega arith)
-sixteen (some NotDiphone) e = absurd (omega arith)
-sixteen (some MissingSection) e = absurd (omega arith)
-sixteen (some BadHeader) e = absurd (omega arith)
-sixteen (some BadTables) e = absurd (omega arith)
-sixteen (some BadIndex) e = absurd (omega arith)
-sixteen (some BadSheet) e = absurd (omega arith)
-sixteen (some NotFinite) e = absurd (omega arith)
-sixteen (some BadSlope) e = absurd (omega arith)
-sixteen (some PastLimit) e = absurd (omega arith)
-sixteen (some TooManyMarks) e = absurd (omega arith)
-sixteen (some ShortBuffer) e = absurd (omega arith)
-sixteen (some ShortSlice) e = absurd (omega arith)
-sixteen (some BadState) e = absurd (omega arith)
-sixteen (some MissingPair) e = refl
-sixteen (some LongText) e = absurd (omega arith)
+sixteen : (u : Option Refusal) → answer_of u ≡ 16 → u ≡ Some MissingPair
+sixteen None e = absurd (omega arith)
+sixteen (Some BadMagic) e = absurd (omega arith)
+sixteen (Some SectionCut) e = absurd (omega arith)
+sixteen (Some NotDiphone) e = absurd (omega arith)
+sixteen (Some MissingSection) e = absurd (omega arith)
+sixteen (Some BadHeader) e = absurd (omega arith)
+sixteen (Some BadTables) e = absurd (omega arith)
+sixteen (Some BadIndex) e = absurd (omega arith)
+sixteen (Some BadSheet) e = absurd (omega arith)
+sixteen (Some NotFinite) e = absurd (omega arith)
+sixteen (Some BadSlope) e = absurd (omega arith)
+sixteen (Some PastLimit) e = absurd (omega arith)
+sixteen (Some TooManyMarks) e = absurd (omega arith)
+sixteen (Some ShortBuffer) e = absurd (omega arith)
+sixteen (Some ShortSlice) e = absurd (omega arith)
+sixteen (Some BadState) e = absurd (omega arith)
+sixteen (Some MissingPair) e = refl
+sixteen (Some LongText) e = absurd (omega arith)
 
 -- ---- each function's refusal, by the check's
 
 module _ (file sheet : List ℕ) (o : Settings) where
   abbrev Checked16 : Type 0
-  Checked16 = check_refusal file sheet o ≡ some MissingPair
+  Checked16 = check_refusal file sheet o ≡ Some MissingPair
 
-  call-then : (b : Buffers) → Checked16 → call_refusal file sheet o b ≡ some MissingPair
+  call-then : (b : Buffers) → Checked16 → call_refusal file sheet o b ≡ Some MissingPair
   unfolding call_refusal
   call-then b e = rw e refl
 
-  call-only : (b : Buffers) → call_refusal file sheet o b ≡ some MissingPair → Checked16
+  call-only : (b : Buffers) → call_refusal file sheet o b ≡ Some MissingPair → Checked16
   unfolding call_refusal
   call-only b e = short-next (check_refusal file sheet o) (fits (voice_of file) (sheet_of sheet) o b) e
 
@@ -131,9 +130,9 @@ module _ (file sheet : List ℕ) (o : Settings) where
   unfolding planned_of
   planned-only b e = call-only b (by (call_refusal file sheet o b) e)
     where
-      by : (r : Option Refusal) → (answer_by (voice_of file) (sheet_of sheet) o r).answer ≡ Refused MissingPair → r ≡ some MissingPair
-      by none e = absurd (let z : ◌≡◌ {A = ℕ} 0 1 = cc in omega arith)
-      by (some c) e = let s : c ≡ MissingPair = cc in ap (λ (x : Refusal). some x) s
+      by : (r : Option Refusal) → (answer_by (voice_of file) (sheet_of sheet) o r).answer ≡ Err MissingPair → r ≡ Some MissingPair
+      by None e = absurd (let z : ◌≡◌ {A = ℕ} 0 1 = cc in omega arith)
+      by (Some c) e = let s : c ≡ MissingPair = cc in ap (λ (x : Refusal). Some x) s
 
   plan-then16 : (h : Handed) → Checked16 → Number16 (answer_of (refusal_of_plan file sheet o h)) × (handed_after file sheet o h ≡ h)
   unfolding refusal_of_plan handed_after
@@ -163,7 +162,7 @@ module _ (file sheet : List ℕ) (o : Settings) where
 
 module _ (file sheet : List ℕ) {R L : Type 0} (Made : Settings → L → R → L → Type 0) (Is16 : R → Type 0) (answer : Settings → L → R) (leaves : Settings → L → L)
     (is : (o : Settings) (old : L) (r : R) (left : L) → Made o old r left → (r ≡ answer o old) × (left ≡ leaves o old))
-    (then16 : (o : Settings) (old : L) → check_refusal file sheet o ≡ some MissingPair → Is16 (answer o old) × (leaves o old ≡ old)) where
+    (then16 : (o : Settings) (old : L) → check_refusal file sheet o ≡ Some MissingPair → Is16 (answer o old) × (leaves o old ≡ old)) where
   as-off : (o : Settings) (old : L) → let on = strictly true o in let off = strictly false o in
       (check_refusal file sheet on ≡ check_refusal file sheet off → (answer on old ≡ answer off old) × (leaves on old ≡ leaves off old))
       → AnswersAsOff (λ x. Made x old) Is16 o
@@ -173,7 +172,7 @@ module _ (file sheet : List ℕ) {R L : Type 0} (Made : Settings → L → R →
       let s = same (check-same file sheet o (λ e. n (subst Is16 (sym x.0) (then16 (strictly true o) old e).0))) in
       (x.0 ∙ s.0 ∙ sym y.0, x.1 ∙ s.1 ∙ sym y.1)
 
-  refuses-by : ((o : Settings) (old : L) → Is16 (answer o old) → check_refusal file sheet o ≡ some MissingPair) → RefusesBy Made Is16 file sheet
+  refuses-by : ((o : Settings) (old : L) → Is16 (answer o old) → check_refusal file sheet o ≡ Some MissingPair) → RefusesBy Made Is16 file sheet
   refuses-by only =
       record {
         then16 = λ o old left r m k.
@@ -212,7 +211,7 @@ refuses-exactly file sheet =
 -- ---- a spoken call
 
 -- it is one with strict off too
-loose : (file sheet : List ℕ) (o : Settings) (b : Buffers) → call_refusal file sheet o b ≡ none → call_refusal file sheet (strictly false o) b ≡ none
+loose : (file sheet : List ℕ) (o : Settings) (b : Buffers) → call_refusal file sheet o b ≡ None → call_refusal file sheet (strictly false o) b ≡ None
 unfolding call_refusal check_refusal read_refusal missing_refusal fits need_of periods_taken plan_of
 loose file sheet o b e =
     let k = next-none (check_refusal file sheet o) _ e in
@@ -239,11 +238,11 @@ unfolding periods_of periods_taken plan_of
 longer-loosely c d s x b f = let e = extension (loosely c) (loosely d) (record { settings = s; extends = x; begins = b; found = f }) in record { heads = e.heads; equal = e.equal }
 
 -- each pair of it, where it is strict, by a name that it tries
-found-then : (t : Bool) → pick t none (some MissingPair) ≡ none → t ≡ true
+found-then : (t : Bool) → pick t None (Some MissingPair) ≡ None → t ≡ true
 found-then true e = refl
 found-then false e = absurd (let z : ◌≡◌ {A = ℕ} 0 1 = cc in omega arith)
 
-all_found : (file sheet : List ℕ) (o : Settings) (b : Buffers) → call_refusal file sheet o b ≡ none → o.strict ≡ true
+all_found : (file sheet : List ℕ) (o : Settings) (b : Buffers) → call_refusal file sheet o b ≡ None → o.strict ≡ true
     → tried_found (voice_of file) o.fold (sheet_of sheet).segments ≡ true
 unfolding call_refusal
 all_found file sheet o b e s =

@@ -1,6 +1,5 @@
 -- Document 02, A1: strict calls.
-use Rattle.std.specs.Prelude.{◌≡◌, Bool, true, false, List, ℕ}
-use Rattle.std.proofs.Math.Option.{Option, none, some}
+use Rattle.std.specs.Prelude.{◌≡◌, Bool, true, false, List, ℕ, Err, None, Ok, Option, Some}
 use Rattle.base.specs.Choice.{pick}
 use Rattle.base.specs.Lists.{or_next}
 use Rattle.refusal.specs.declared.Refusal.{Refusal}
@@ -13,7 +12,6 @@ use Rattle.sheet.specs.Begins.{Begins}
 use Rattle.units.specs.Selecting.{folded, first_tried_found}
 use Rattle.call.specs.declared.Settings.{Settings}
 use Rattle.call.specs.declared.Summary.{Summary}
-use Rattle.call.specs.declared.Called.TheVariants.{Spoken, Refused}
 use Rattle.call.specs.declared.Planned.{Planned}
 use Rattle.call.specs.Call.{plan_of}
 use Rattle.call.specs.Buffers.{Buffers, filled, fits, check_refusal, answer_by, left_by}
@@ -38,7 +36,7 @@ AnswersAsOff {R} {L} Made Is16 o =
     → (Is16 r → ⊥) → (r ≡ r₁) × (left ≡ left₁)
 
 abbrev pub Planned16 : Planned → Type 0
-Planned16 r = r.answer ≡ Refused MissingPair
+Planned16 r = r.answer ≡ Err MissingPair
 
 abbrev pub Number16 : ℕ → Type 0
 Number16 r = r ≡ 16
@@ -59,8 +57,8 @@ segments_of sheet o = folded o.fold (sheet_of sheet).segments
 -- neither join nor filter, target ends, marks or buffers play a part
 pub record Misses (file sheet : List ℕ) (o : Settings) : Type 0 where
   pub strict : o.strict ≡ true
-  pub opens : opening_refusal file ≡ none
-  pub reads : sheet_refusal sheet ≡ none
+  pub opens : opening_refusal file ≡ None
+  pub reads : sheet_refusal sheet ≡ None
   pub lacks : Lacks (voice_of file) (segments_of sheet o)
 
 -- such calls are refused so, with what they were lent left as it was, and no others are
@@ -82,7 +80,7 @@ old_check_refusal file sheet o = or_next (opening_refusal file) (or_next (sheet_
 
 abbrev pub old_call_refusal : List ℕ → List ℕ → Settings → Buffers → Option Refusal
 old_call_refusal file sheet o b =
-    or_next (old_check_refusal file sheet o) (pick (fits (voice_of file) (sheet_of sheet) o b) none (some ShortBuffer))
+    or_next (old_check_refusal file sheet o) (pick (fits (voice_of file) (sheet_of sheet) o b) None (Some ShortBuffer))
 
 -- a call answers and leaves what that says; samples, state and what is filled do not read strict at all
 pub record AsBefore (file sheet : List ℕ) (o : Settings) : Type 0 where
@@ -99,7 +97,7 @@ pub record StrictCalls : Type 0 where
   pub off : (file sheet : List ℕ) (o : Settings) → o.strict ≡ false → AsBefore file sheet o
   -- in a strict call that is spoken each pair is, by an entry of a name that it tries
   pub by_name : (file sheet : List ℕ) (o : Settings) (b after : Buffers) (r : Planned) (m : Summary) → PlanMade file sheet o b r after
-      → o.strict ≡ true → r.answer ≡ Spoken m → (left right : SegmentRead) → Adjacent left right (segments_of sheet o)
+      → o.strict ≡ true → r.answer ≡ Ok m → (left right : SegmentRead) → Adjacent left right (segments_of sheet o)
       → ByName (voice_of file) (segments_of sheet o) left right
   pub by_name_in_c : (file sheet : List ℕ) (o : Settings) (h after : Handed) → PlanMadeInC file sheet o h 0 after
       → o.strict ≡ true → (left right : SegmentRead) → Adjacent left right (segments_of sheet o)

@@ -7,7 +7,7 @@ use Prim.Native.Nat.{ℕ, zero, suc, ◌+◌, ◌-◌, ◌*◌, ◌≤◌, ◌<�
 use native.Mathlib.Nat.{eq-or-lt_of_le, le_of_suc-le-suc}
 use native.Mathlib.Omega.{arith}
 use borrow.Author.Tests.{lt-ltb, le-ltb}
-use lib.Dec.{eqb, ltb}
+use lib.Dec.{ltb}
 use lib.ListN.{length, take, drop, length-append, length-take, length-drop, take-append-drop, drop_of_length-le}
 use lib.Seq.{sets, drop-append-le, drop-append-add, drop-drop}
 use Rattle.base.specs.Choice.{pick}
@@ -117,12 +117,6 @@ module _ (file : List ℕ) (p size : ℕ) (at : Progress) where
       }
 
 -- ---- by the header at hand
-
-pub codec-ulaw : (h : VoiceHeader) → eqb h.codec 0 ≡ true → codec_of h ≡ Ulaw
-codec-ulaw h e = rw e
-
-pub codec-g721 : (h : VoiceHeader) → eqb h.codec 0 ≡ false → codec_of h ≡ G721
-codec-g721 h e = rw e
 
 module _ (file : List ℕ) (d : DiphoneVoice) (o : IsOpen file d) where
   pub frames-is : (voice_of file).header.frames ≡ d.header.frames

@@ -31,20 +31,17 @@ pub struct Progress {
 fn codec_of(d: DiphoneVoice) -> Codec
     ensures { result ≡ codec_of d.header }
 {
-    if d.header.codec == 0 {
-        return Codec::Ulaw;
+    match d.header.codec {
+        0 => Codec::Ulaw,
+        _ => Codec::G721,
     }
-    Codec::G721
 }
 
 // At most n bytes of a slice, from the front.
 fn front_of<'a>(s: &'a [u8], n: usize) -> &'a [u8]
     ensures { result.now ≡ take n s.now }
 {
-    if s.len() <= n {
-        return s;
-    }
-    &s[..n]
+    &s[..n.min(s.len())]
 }
 
 // Decodes period p to the front of the buffer, where it is not there already.
@@ -57,10 +54,10 @@ fn decode_period(file: &[u8], d: DiphoneVoice, p: usize, front: usize, decoded: 
     if front == p {
         return;
     }
-    if d.header.codec == 0 {
-        return;
+    match codec_of(d) {
+        Codec::Ulaw => {}
+        Codec::G721 => adpcm::decode_adpcm(voice::periods::residual(file, d, p), decoded),
     }
-    adpcm::decode_adpcm(voice::periods::residual(file, d, p), decoded);
 }
 
 // Writes the row of period p as element `taken` of the rows.
@@ -153,14 +150,12 @@ fn marks_up_to_end(unit: Unit, marks: &[u8], taken: usize) -> usize
         (result ≤ max taken (length marks.now / 4)) }
 {
     let count = marks.len() / 4;
-    let mut end = taken;
-    while end < count {
+    for end in taken..count {
         if unit.target_end < base::bytes::u32_at(marks, end) as usize {
             return end;
         }
-        end += 1;
     }
-    end
+    taken.max(count)
 }
 
 // Of `count` marks of which so many are taken: the end of the unit's own, one for each of its periods.
@@ -168,14 +163,8 @@ fn own_end(unit: Unit, count: usize, taken: usize) -> usize
     requires { unit.first_period ≤ unit.last_period }
     ensures { (result ≡ taken + min (period_count unit) (count - taken)) × (result ≤ max taken count) }
 {
-    if count <= taken {
-        return taken;
-    }
     let own = unit.last_period - unit.first_period;
-    if own < count - taken {
-        return taken + own;
-    }
-    count
+    taken + own.min(count.saturating_sub(taken))
 }
 
 // The end of a unit's share of the marks, of which so many are taken: in the simple join it takes as
@@ -224,8 +213,8 @@ pub fn take_unit(
         let front = take_period(file, d, p, size, to, sizes, rows, excitation, decoded);
         to = Progress {
             taken: to.taken + 1,
-            mark: mark,
-            front: front,
+            mark,
+            front,
         };
         place = excitation::place_after(place, pace, size);
     }

@@ -1,19 +1,21 @@
--- `same` says that two names are equal; two names compared byte by byte.
-use mathlib.Core.Path.{◌≡◌, refl}
+-- `same` says that two names are equal, and how one stands to another.
+use mathlib.Core.Path.{◌≡◌, refl, ap}
 use mathlib.Core.Bool.{Bool, true, false, ◌&&◌}
 use mathlib.Core.List.{List, [], ◌∷◌}
-use Prim.Native.Nat.{ℕ, ◌+◌, ◌≤◌, ◌<◌}
+use Prim.Native.Nat.{ℕ, ◌<◌}
 use native.Mathlib.Omega.{arith}
-use native.Mathlib.Numerals.{add-one}
 use borrow.Author.Tests.{eqb-true, eq-eqb, ne_eqb, lt-ltb, le-ltb}
 use lib.Dec.{eqb}
-use lib.ListN.{length, drop, get_or, drop_of_length-le}
-use lib.Seq.{drop-cons}
+use lib.ListN.{length}
+use Rattle.std.specs.Cmp.Lexicographic.{pointwise, slice_cmp}
+use Rattle.std.specs.Ordering.{nat_cmp}
+use Rattle.std.proofs.lemmas.Bool.{cases_order}
+use mathlib.Core.Logic.{inl, inr}
 use Rattle.base.specs.Choice.{pick}
 use Rattle.base.proofs.ListLaws.{and_left, and_right}
 use Rattle.text.specs.Names.{same, before, order_of}
-use Rattle.text.specs.declared.Order.{Order}
-use Rattle.text.specs.declared.Order.TheVariants.{Before, Same, After}
+use Rattle.std.specs.declared.cmp.Ordering.{Ordering}
+use Rattle.std.specs.declared.cmp.Ordering.TheVariants.{Less, Equal, Greater}
 
 pub same-eq : (a b : List ℕ) → same a b ≡ true → a ≡ b
 unfolding same
@@ -30,6 +32,14 @@ unfolding same
 same_refl [] = refl
 same_refl (a ∷ as') = rw (eq-eqb a a refl) (same_refl as')
 
+-- the library's own test of two slices
+pub same_is : (a b : List ℕ) → pointwise eqb a b ≡ same a b
+unfolding same
+same_is [] [] = refl
+same_is [] (b ∷ bs) = refl
+same_is (a ∷ as') [] = refl
+same_is (a ∷ as') (b ∷ bs) = ap (λ (t : Bool). eqb a b && t) (same_is as' bs)
+
 -- a shorter name is another
 pub same-short : (a b : List ℕ) → length a < length b → same a b ≡ false
 unfolding same
@@ -43,51 +53,29 @@ same-short (a ∷ as') (b ∷ bs) h = rw (same-short as' bs (omega arith)) (go (
     go false = refl
 
 -- the order says whether they are the same
-abbrev pub is_same : Order → Bool
-is_same Before = false
-is_same Same = true
-is_same After = false
+abbrev pub is_same : Ordering → Bool
+is_same Less = false
+is_same Equal = true
+is_same Greater = false
 
 pub same-order : (a b : List ℕ) → is_same (order_of a b) ≡ same a b
 unfolding order_of
 same-order a b = go (same a b) (before a b)
   where
-    go : (s t : Bool) → is_same (pick s Same (pick t Before After)) ≡ s
+    go : (s t : Bool) → is_same (pick s Equal (pick t Less Greater)) ≡ s
     go true t = refl
     go false true = refl
     go false false = refl
 
--- ---- two names from a place on
-
--- the smaller byte stands first
-pub order-before : (a b : List ℕ) (i : ℕ) → i < length a → i < length b → get_or a i 0 < get_or b i 0 → order_of (drop i a) (drop i b) ≡ Before
+-- the library's own comparison of two slices
+pub order_is : (a b : List ℕ) → slice_cmp nat_cmp a b ≡ order_of a b
 unfolding order_of same before
-order-before a b i ha hb l =
-    rw (drop-cons a i 0 ha, drop-cons b i 0 hb)
-    (simp (ne_eqb (get_or a i 0) (get_or b i 0) (λ e. omega arith), lt-ltb (get_or a i 0) (get_or b i 0) l))
-
-pub order-after : (a b : List ℕ) (i : ℕ) → i < length a → i < length b → get_or b i 0 < get_or a i 0 → order_of (drop i a) (drop i b) ≡ After
-unfolding order_of same before
-order-after a b i ha hb l =
-    rw (drop-cons a i 0 ha, drop-cons b i 0 hb)
-    (simp (ne_eqb (get_or a i 0) (get_or b i 0) (λ e. omega arith), le-ltb (get_or a i 0) (get_or b i 0) (omega arith)))
-
--- equal bytes leave it to the rest
-pub order-more : (a b : List ℕ) (i : ℕ) → i < length a → i < length b → get_or a i 0 ≡ get_or b i 0 → order_of (drop (i + 1) a) (drop (i + 1) b) ≡ order_of (drop i a) (drop i b)
-unfolding order_of same before
-order-more a b i ha hb e =
-    rw (add-one i, drop-cons a i 0 ha, drop-cons b i 0 hb)
-    (simp (eq-eqb (get_or a i 0) (get_or b i 0) e, le-ltb (get_or a i 0) (get_or b i 0) (omega arith)))
-
--- the shorter name stands first
-pub order-short : (a b : List ℕ) (i : ℕ) → length a ≤ i → i < length b → order_of (drop i a) (drop i b) ≡ Before
-unfolding order_of same before
-order-short a b i ha hb = rw (drop_of_length-le a ha, drop-cons b i 0 hb) refl
-
-pub order-long : (a b : List ℕ) (i : ℕ) → i < length a → length b ≤ i → order_of (drop i a) (drop i b) ≡ After
-unfolding order_of same before
-order-long a b i ha hb = rw (drop-cons a i 0 ha, drop_of_length-le b hb) refl
-
-pub order-done : (a b : List ℕ) (i : ℕ) → length a ≤ i → length b ≤ i → order_of (drop i a) (drop i b) ≡ Same
-unfolding order_of same before
-order-done a b i ha hb = rw (drop_of_length-le a ha, drop_of_length-le b hb) refl
+order_is [] [] = refl
+order_is [] (b ∷ bs) = refl
+order_is (a ∷ as') [] = refl
+order_is (a ∷ as') (b ∷ bs) =
+    elim (cases_order a b) [
+      | inl e ↦ simp (eq-eqb a b e, le-ltb a b (omega arith)) (order_is as' bs)
+      | inr (inl l) ↦ simp (ne_eqb a b (λ e. omega arith), lt-ltb a b l)
+      | inr (inr g) ↦ simp (ne_eqb a b (λ e. omega arith), le-ltb a b (omega arith))
+    ]

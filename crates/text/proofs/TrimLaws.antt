@@ -4,14 +4,14 @@ use mathlib.Core.Bool.{Bool, true, false, ◌&&◌, ◌||◌}
 use mathlib.Core.List.{List, [], ◌∷◌}
 use Prim.Native.Nat.{ℕ, zero, suc, ◌+◌, ◌≤◌, ◌<◌}
 use native.Mathlib.Omega.{arith}
-use borrow.Author.Tests.{lt-leb, le-leb, ne_eqb, eqb-true, leb-true}
+use borrow.Author.Tests.{lt-leb, ne_eqb, eqb-true, leb-true}
 use lib.Dec.{eqb, leb}
 use lib.ListN.{length, get_or, take, drop, length-drop}
 use lib.Seq.{drop-drop, get_or-drop}
 use Rattle.base.specs.Choice.{pick, within}
 use Rattle.base.proofs.ListLaws.{and_left, and_right}
 use Rattle.text.specs.Names.{same}
-use Rattle.text.specs.Trim.{one_byte, two_bytes, ends2000, after_e2, three_bytes, space_at, trim_start_by, trim_start, trim_end}
+use Rattle.text.specs.Trim.{one_byte, two_bytes, three_bytes, space_at, trim_start_by, trim_start, trim_end}
 
 or-false : (t : Bool) → (t || false) ≡ t
 or-false true = refl
@@ -24,50 +24,10 @@ and-false false = refl
 not-both : ◌≡◌ {A = Bool} false true → ⊥
 not-both e = let z : ◌≡◌ {A = ℕ} 0 1 = cc in omega arith
 
--- ---- the tests of one character
-
-pub two_at : (a b : ℕ) → a ≡ 0xC2 → two_bytes a b ≡ (eqb b 0x85 || eqb b 0xA0)
-two_at a b e = rw e
-
-pub two-not : (a b : ℕ) → eqb a 0xC2 ≡ false → two_bytes a b ≡ false
-two-not a b e = rw e
-
-pub ends_low : (c : ℕ) → c < 0x80 → ends2000 c ≡ false
-ends_low c h =
-    let p = lt-leb 0x80 c h in
-    let q = ne_eqb c 0xA8 (λ e. omega arith) in
-    let r = ne_eqb c 0xA9 (λ e. omega arith) in
-    let s = ne_eqb c 0xAF (λ e. omega arith) in
-    rw (p, q, r, s)
-
-pub ends-run : (c : ℕ) → 0x80 ≤ c → c ≤ 0x8A → ends2000 c ≡ true
-ends-run c h k = let p = le-leb 0x80 c h in let q = le-leb c 0x8A k in rw (p, q)
-
-pub ends-high : (c : ℕ) → 0x8A < c → ends2000 c ≡ (eqb c 0xA8 || (eqb c 0xA9 || eqb c 0xAF))
-ends-high c h = let p = lt-leb c 0x8A h in rw (p, and-false (leb 0x80 c))
-
-pub after-80 : (b c : ℕ) → b ≡ 0x80 → after_e2 b c ≡ ends2000 c
-after-80 b c e = rw e (or-false (ends2000 c))
-
-pub after-81 : (b c : ℕ) → b ≡ 0x81 → after_e2 b c ≡ eqb c 0x9F
-after-81 b c e = rw e
-
-pub after-not : (b c : ℕ) → eqb b 0x80 ≡ false → eqb b 0x81 ≡ false → after_e2 b c ≡ false
-after-not b c e f = rw (e, f)
-
-pub three-e1 : (a b c : ℕ) → a ≡ 0xE1 → three_bytes a b c ≡ (eqb b 0x9A && eqb c 0x80)
-three-e1 a b c e = rw e (or-false (eqb b 0x9A && eqb c 0x80))
-
-pub three-e2 : (a b c : ℕ) → a ≡ 0xE2 → three_bytes a b c ≡ after_e2 b c
-three-e2 a b c e = rw e (or-false (after_e2 b c))
-
-pub three-e3 : (a b c : ℕ) → a ≡ 0xE3 → three_bytes a b c ≡ (eqb b 0x80 && eqb c 0x80)
-three-e3 a b c e = rw e
-
-pub three-not : (a b c : ℕ) → eqb a 0xE1 ≡ false → eqb a 0xE2 ≡ false → eqb a 0xE3 ≡ false → three_bytes a b c ≡ false
-three-not a b c e f g = rw (e, f, g)
-
 -- ---- the character at a place
+
+three-not : (a b c : ℕ) → eqb a 0xE1 ≡ false → eqb a 0xE2 ≡ false → eqb a 0xE3 ≡ false → three_bytes a b c ≡ false
+three-not a b c e f g = rw (e, f, g)
 
 -- a byte that is not 0 is there
 within-length : (s : List ℕ) (i : ℕ) → 0 < get_or s i 0 → i < length s

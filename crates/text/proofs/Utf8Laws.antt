@@ -6,17 +6,17 @@ use lib.ListN.{length, drop, get_or, drop_of_length-le}
 use native.Mathlib.Numerals.{add-one}
 use borrow.Author.Tests.{lt-ltb}
 use lib.Seq.{drop-cons}
-use Rattle.text.specs.Utf8.{waits, step, lead, complete, utf8}
-use Rattle.text.specs.declared.Wait.TheVariants.{Next}
+use Rattle.std.specs.Prelude.{Option}
+use Rattle.text.specs.Utf8.{needs, waits, step, lead, complete, utf8}
 use Rattle.text.specs.declared.Wait.{Wait}
 
 -- one byte more
-pub waits-more : (w : Wait) (s : List ℕ) (i : ℕ) → i < length s → waits w (drop i s) ≡ waits (step w (get_or s i 0)) (drop (i + 1) s)
+pub waits-more : (w : Option Wait) (s : List ℕ) (i : ℕ) → i < length s → waits w (drop i s) ≡ waits (step w (get_or s i 0)) (drop (i + 1) s)
 unfolding waits
 waits-more w s i h = ap (waits w) (drop-cons s i 0 h) ∙ ap (λ (n : ℕ). waits (step w (get_or s i 0)) (drop n s)) (sym (add-one i))
 
 -- no byte is left
-pub waits-done : (w : Wait) (s : List ℕ) (i : ℕ) → length s ≤ i → waits w (drop i s) ≡ w
+pub waits-done : (w : Option Wait) (s : List ℕ) (i : ℕ) → length s ≤ i → waits w (drop i s) ≡ w
 unfolding waits
 waits-done w s i h = ap (waits w) (drop_of_length-le s h)
 
@@ -25,4 +25,4 @@ pub utf8-ascii : (s : List ℕ) (i : ℕ) → i < length s → get_or s i 0 < 0x
 unfolding utf8 step lead
 utf8-ascii s i h l =
     let t = lt-ltb (get_or s i 0) 0x80 l in
-    sym (ap complete (waits-more (Next 0 0 0) s i h ∙ rw t))
+    sym (ap complete (waits-more (needs 0 0 0) s i h ∙ rw t))

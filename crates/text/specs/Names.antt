@@ -1,8 +1,8 @@
 -- Names as bytes.
 use Rattle.std.specs.Prelude.{Bool, true, false, ◌&&◌, ◌||◌, List, [], ◌∷◌, ℕ, eqb, ltb}
 use Rattle.base.specs.Choice.{pick}
-use Rattle.text.specs.declared.Order.{Order}
-use Rattle.text.specs.declared.Order.TheVariants.{Before, Same, After}
+use Rattle.std.specs.declared.cmp.Ordering.{Ordering}
+use Rattle.std.specs.declared.cmp.Ordering.TheVariants.{Less, Equal, Greater}
 
 -- the same bytes
 unfoldable pub same : List ℕ → List ℕ → Bool
@@ -19,8 +19,8 @@ before (a ∷ as') [] = false
 before (a ∷ as') (b ∷ bs) = ltb a b || (eqb a b && before as' bs)
 
 -- how a stands to b
-unfoldable pub order_of : List ℕ → List ℕ → Order
-order_of a b = pick (same a b) Same (pick (before a b) Before After)
+unfoldable pub order_of : List ℕ → List ℕ → Ordering
+order_of a b = pick (same a b) Equal (pick (before a b) Less Greater)
 
 -- the name is one of a list's
 unfoldable pub among : List ℕ → List (List ℕ) → Bool

@@ -8,75 +8,88 @@ ghost use Rattle.base.specs.Choice.{pick};
 ghost use Rattle.text.specs.Names as names;
 ghost use Rattle.text.specs.Utf8 as utf8s;
 
-// Between two bytes of a text: how many bytes the character still needs, and the bounds of the next
-// of them; or the text is not UTF-8.
+use std::cmp::Ordering;
+
+// What the next byte of a text may be, between two bytes of it: how many bytes the character still
+// needs, and the bounds of the next of them. Where the text is not UTF-8 there is no such thing.
 #[derive(Clone, Copy)]
-pub enum Wait {
-    Bad,
-    Next(u8, u8, u8),
+pub struct Wait {
+    pub left: u8,
+    pub low: u8,
+    pub high: u8,
 }
+
+// No character is open.
+const START: Wait = Wait {
+    left: 0,
+    low: 0,
+    high: 0,
+};
 
 // The bound that holds where the byte is the special one, and that which holds elsewhere.
 fn bound(b: u8, special: u8, there: u8, elsewhere: u8) -> u8
     ensures { result ≡ pick (eqb b special) there elsewhere }
 {
-    if b == special {
-        return there;
-    }
-    elsewhere
+    if b == special { there } else { elsewhere }
 }
 
 // After the first byte of a character.
-fn lead(b: u8) -> Wait
+#[tactic(auto, unfolding(crate::specs::Utf8::lead))]
+fn lead(b: u8) -> Option<Wait>
     ensures { result ≡ utf8s.lead b }
 {
     if b < 0x80 {
-        return Wait::Next(0, 0, 0);
+        Some(START)
+    } else if b < 0xC2 {
+        None
+    } else if b < 0xE0 {
+        Some(Wait {
+            left: 1,
+            low: 0x80,
+            high: 0xBF,
+        })
+    } else if b < 0xF0 {
+        Some(Wait {
+            left: 2,
+            low: bound(b, 0xE0, 0xA0, 0x80),
+            high: bound(b, 0xED, 0x9F, 0xBF),
+        })
+    } else if b < 0xF5 {
+        Some(Wait {
+            left: 3,
+            low: bound(b, 0xF0, 0x90, 0x80),
+            high: bound(b, 0xF4, 0x8F, 0xBF),
+        })
+    } else {
+        None
     }
-    if b < 0xC2 {
-        return Wait::Bad;
-    }
-    if b < 0xE0 {
-        return Wait::Next(1, 0x80, 0xBF);
-    }
-    if b < 0xF0 {
-        return Wait::Next(2, bound(b, 0xE0, 0xA0, 0x80), bound(b, 0xED, 0x9F, 0xBF));
-    }
-    if b < 0xF5 {
-        return Wait::Next(3, bound(b, 0xF0, 0x90, 0x80), bound(b, 0xF4, 0x8F, 0xBF));
-    }
-    Wait::Bad
 }
 
 // After one byte more.
-fn step(w: Wait, b: u8) -> Wait
+#[tactic(auto, unfolding(crate::specs::Utf8::step))]
+fn step(w: Option<Wait>, b: u8) -> Option<Wait>
     ensures { result ≡ utf8s.step w b }
 {
-    match w {
-        Wait::Bad => Wait::Bad,
-        Wait::Next(k, lo, hi) => {
-            if k == 0 {
-                return lead(b);
-            }
-            if b < lo {
-                return Wait::Bad;
-            }
-            if hi < b {
-                return Wait::Bad;
-            }
-            Wait::Next(k - 1, 0x80, 0xBF)
-        }
+    let Wait { left, low, high } = w?;
+    if left == 0 {
+        lead(b)
+    } else if low <= b && b <= high {
+        Some(Wait {
+            left: left - 1,
+            low: 0x80,
+            high: 0xBF,
+        })
+    } else {
+        None
     }
 }
 
 // No character is left open.
-fn complete(w: Wait) -> bool
+#[tactic(auto, unfolding(crate::specs::Utf8::complete))]
+fn complete(w: Option<Wait>) -> bool
     ensures { result ≡ utf8s.complete w }
 {
-    match w {
-        Wait::Bad => false,
-        Wait::Next(k, _, _) => k == 0,
-    }
+    matches!(w, Some(Wait { left: 0, .. }))
 }
 
 // A place up to which all is ASCII: that of the first byte that is not, or the end.
@@ -84,67 +97,35 @@ fn ascii_end(s: &[u8]) -> usize
     ensures { (result ≤ length s.now) ×
         (utf8s.utf8 (drop result s.now) ≡ utf8s.utf8 s.now) }
 {
-    let mut i = 0;
-    while i < s.len() {
+    for i in 0..s.len() {
         if s[i] >= 0x80 {
             return i;
         }
-        i += 1;
     }
-    i
+    s.len()
 }
 
 // Whether the bytes are UTF-8.
 pub fn utf8(s: &[u8]) -> bool
     ensures { result ≡ utf8s.utf8 s.now }
 {
-    let mut w = Wait::Next(0, 0, 0);
-    let mut i = ascii_end(s);
-    while i < s.len() {
-        w = step(w, s[i]);
-        i += 1;
+    let mut w = Some(START);
+    for b in &s[ascii_end(s)..] {
+        w = step(w, *b);
     }
     complete(w)
 }
 
-// How one name stands to another in the order by bytes.
-#[derive(Clone, Copy)]
-pub enum Order {
-    Before,
-    Same,
-    After,
-}
-
-// How the name a stands to the name b.
-pub fn compare(a: &[u8], b: &[u8]) -> Order
+// How the name a stands to the name b, in the order by bytes.
+pub fn compare(a: &[u8], b: &[u8]) -> Ordering
     ensures { result ≡ names.order_of a.now b.now }
 {
-    let mut i = 0;
-    while i < a.len() {
-        if b.len() <= i {
-            return Order::After;
-        }
-        if a[i] < b[i] {
-            return Order::Before;
-        }
-        if b[i] < a[i] {
-            return Order::After;
-        }
-        i += 1;
-    }
-    if i < b.len() {
-        return Order::Before;
-    }
-    Order::Same
+    a.cmp(&b)
 }
 
 // Whether two names are the same.
 pub fn same(a: &[u8], b: &[u8]) -> bool
     ensures { result ≡ names.same a.now b.now }
 {
-    match compare(a, b) {
-        Order::Before => false,
-        Order::Same => true,
-        Order::After => false,
-    }
+    a == b
 }

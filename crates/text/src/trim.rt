@@ -6,80 +6,37 @@ ghost use Rattle.text.specs.Trim as trims;
 fn is_one(a: usize) -> bool
     ensures { result ≡ trims.one_byte a }
 {
-    if a < 0x09 {
-        return false;
-    }
-    if a <= 0x0D {
-        return true;
-    }
-    a == 0x20
+    0x09 <= a && a <= 0x0D || a == 0x20
 }
 
 // Whether two bytes are.
 fn is_two(a: usize, b: usize) -> bool
     ensures { result ≡ trims.two_bytes a b }
 {
-    if a == 0xC2 {
-        if b == 0x85 {
-            return true;
-        }
-        return b == 0xA0;
-    }
-    false
+    a == 0xC2 && (b == 0x85 || b == 0xA0)
 }
 
 // Whether a third byte makes one of U+2000 to U+200A, U+2028, U+2029 and U+202F.
 fn ends_2000(c: usize) -> bool
     ensures { result ≡ trims.ends2000 c }
 {
-    if c < 0x80 {
-        return false;
-    }
-    if c <= 0x8A {
-        return true;
-    }
-    if c == 0xA8 {
-        return true;
-    }
-    if c == 0xA9 {
-        return true;
-    }
-    c == 0xAF
+    0x80 <= c && c <= 0x8A || c == 0xA8 || c == 0xA9 || c == 0xAF
 }
 
 // Whether the second and third byte make one, after 0xE2.
 fn ends_e2(b: usize, c: usize) -> bool
     ensures { result ≡ trims.after_e2 b c }
 {
-    if b == 0x80 {
-        return ends_2000(c);
-    }
-    if b == 0x81 {
-        return c == 0x9F;
-    }
-    false
+    b == 0x80 && ends_2000(c) || b == 0x81 && c == 0x9F
 }
 
 // Whether three bytes are.
 fn is_three(a: usize, b: usize, c: usize) -> bool
     ensures { result ≡ trims.three_bytes a b c }
 {
-    if a == 0xE2 {
-        return ends_e2(b, c);
-    }
-    if a == 0xE1 {
-        if b == 0x9A {
-            return c == 0x80;
-        }
-        return false;
-    }
-    if a == 0xE3 {
-        if b == 0x80 {
-            return c == 0x80;
-        }
-        return false;
-    }
-    false
+    a == 0xE1 && b == 0x9A && c == 0x80
+        || a == 0xE2 && ends_e2(b, c)
+        || a == 0xE3 && b == 0x80 && c == 0x80
 }
 
 // How many bytes the white space character at a place has, 0 where there is none.

@@ -1,8 +1,8 @@
 -- What a call leaves, and its text.
+use Rattle.std.specs.Prelude.{Err, None, Ok, Option, Result, Some}
 use mathlib.Core.Path.{◌≡◌, refl, sym, ap, subst, ◌∙◌}
 use mathlib.Core.Bool.{Bool, true, false}
 use mathlib.Core.List.{List}
-use mathlib.Core.Option.{Option, none, some}
 use Prim.Native.Nat.{ℕ, ◌*◌, ◌/◌, ◌≤◌, ◌<◌}
 use native.Mathlib.Nat.{le_of_eq, mul-le-mul_right}
 use native.Mathlib.Omega.{arith}
@@ -28,8 +28,6 @@ use Rattle.lpc.specs.declared.FilterState.{FilterState}
 use Rattle.lpc.specs.State.{fresh_state}
 use Rattle.call.specs.declared.Settings.{Settings}
 use Rattle.call.specs.declared.Summary.{Summary}
-use Rattle.call.specs.declared.Called.{Called}
-use Rattle.call.specs.declared.Called.TheVariants.{Spoken, Refused}
 use Rattle.call.specs.declared.Planned.{Planned}
 use Rattle.call.specs.Call.{periods_taken, periods_of}
 use Rattle.call.specs.Buffers.{Buffers, filled, need_of, holds, fits, check_refusal, call_refusal, summary_of, fresh_of, answer_by, planned_of, buffers_after}
@@ -43,7 +41,7 @@ use Rattle.transcript.specs.CallText.{spoken_text, call_text, periods_for, Fresh
 
 -- ---- a call that is not refused
 
-module _ (file sheet : List ℕ) (settings : Settings) (b : Buffers) (bytes : Bytes file) (n : call_refusal file sheet settings b ≡ none) where
+module _ (file sheet : List ℕ) (settings : Settings) (b : Buffers) (bytes : Bytes file) (n : call_refusal file sheet settings b ≡ None) where
   abbrev v : Voice
   v = voice_of file
 
@@ -56,7 +54,7 @@ module _ (file sheet : List ℕ) (settings : Settings) (b : Buffers) (bytes : By
   abbrev call : SpokenCall
   call = record { voice_file = file; sheet_file = sheet; settings = settings; lent = b; bytes = bytes; not_refused = n }
 
-  pub opening : opening_refusal file ≡ none
+  pub opening : opening_refusal file ≡ None
   unfolding call_refusal
   opening = (passed-all file sheet settings (next-none _ _ n).0).opening
 
@@ -66,9 +64,9 @@ module _ (file sheet : List ℕ) (settings : Settings) (b : Buffers) (bytes : By
 
   fitting : fits v s settings b ≡ true
   unfolding call_refusal
-  fitting = by (fits v s settings b) (next-none (check_refusal file sheet settings) (pick (fits v s settings b) none (some ShortBuffer)) n).1
+  fitting = by (fits v s settings b) (next-none (check_refusal file sheet settings) (pick (fits v s settings b) None (Some ShortBuffer)) n).1
     where
-      by : (t : Bool) → pick t none (some ShortBuffer) ≡ none → t ≡ true
+      by : (t : Bool) → pick t None (Some ShortBuffer) ≡ None → t ≡ true
       by true e = refl
       by false e = let z : ◌≡◌ {A = ℕ} 0 1 = cc in absurd (omega arith)
 
@@ -161,15 +159,15 @@ module _ (file sheet : List ℕ) (settings : Settings) (b : Buffers) (bytes : By
 
 -- ---- by what the call answered
 
-pub answer-none : (v : Voice) (s : Sheet) (settings : Settings) (m : Summary) (u : Option Refusal) → (answer_by v s settings u).answer ≡ Spoken m → u ≡ none
-answer-none v s settings m none e = refl
-answer-none v s settings m (some c) e = let z : ◌≡◌ {A = ℕ} 0 1 = cc in absurd (omega arith)
+pub answer-none : (v : Voice) (s : Sheet) (settings : Settings) (m : Summary) (u : Option Refusal) → (answer_by v s settings u).answer ≡ Ok m → u ≡ None
+answer-none v s settings m None e = refl
+answer-none v s settings m (Some c) e = let z : ◌≡◌ {A = ℕ} 0 1 = cc in absurd (omega arith)
 
-pub answer-some : (v : Voice) (s : Sheet) (settings : Settings) (c : Refusal) (u : Option Refusal) → (answer_by v s settings u).answer ≡ Refused c → u ≡ some c
-answer-some v s settings c none e = let z : ◌≡◌ {A = ℕ} 0 1 = cc in absurd (omega arith)
-answer-some v s settings c (some d) e = cc
+pub answer-some : (v : Voice) (s : Sheet) (settings : Settings) (c : Refusal) (u : Option Refusal) → (answer_by v s settings u).answer ≡ Err c → u ≡ Some c
+answer-some v s settings c None e = let z : ◌≡◌ {A = ℕ} 0 1 = cc in absurd (omega arith)
+answer-some v s settings c (Some d) e = cc
 
-same-summary : {m n : Summary} → ◌≡◌ {A = Called} (Spoken m) (Spoken n) → m ≡ n
+same-summary : {m n : Summary} → ◌≡◌ {A = Result Summary Refusal} (Ok m) (Ok n) → m ≡ n
 same-summary e = cc
 
 -- a spoken call hands on what its lines need, and these are its text
@@ -178,18 +176,18 @@ pub record Hands (file sheet : List ℕ) (settings : Settings) (b : Buffers) (m 
   pub text : spoken_by m t sizes rows excitation ≡ call_text file sheet settings b
 
 module _ (file sheet : List ℕ) (settings : Settings) (b : Buffers) (r : Planned) (e : r ≡ planned_of file sheet settings b) where
-  pub refused-text : (c : Refusal) → r.answer ≡ Refused c → call_text file sheet settings b ≡ refused (number_of c)
+  pub refused-text : (c : Refusal) → r.answer ≡ Err c → call_text file sheet settings b ≡ refused (number_of c)
   unfolding planned_of call_text
   refused-text c q =
-      let n : call_refusal file sheet settings b ≡ some c = answer-some (voice_of file) (sheet_of sheet) settings c _ (ap (λ (p : Planned). p.answer) (sym e) ∙ q) in
+      let n : call_refusal file sheet settings b ≡ Some c = answer-some (voice_of file) (sheet_of sheet) settings c _ (ap (λ (p : Planned). p.answer) (sym e) ∙ q) in
       rw n
 
-  pub hands : Bytes file → (after : Buffers) → after ≡ buffers_after file sheet settings b → (m : Summary) → r.answer ≡ Spoken m → length b.sizes ≤ 4096 → length b.excitation ≤ 4096
+  pub hands : Bytes file → (after : Buffers) → after ≡ buffers_after file sheet settings b → (m : Summary) → r.answer ≡ Ok m → length b.sizes ≤ 4096 → length b.excitation ≤ 4096
       → Hands file sheet settings b m r.state after.sizes after.rows after.excitation
   unfolding planned_of
   hands bytes after a m q h k =
-      let n : call_refusal file sheet settings b ≡ none = answer-none (voice_of file) (sheet_of sheet) settings m _ (ap (λ (p : Planned). p.answer) (sym e) ∙ q) in
-      let p : r ≡ answer_by (voice_of file) (sheet_of sheet) settings none = e ∙ rw n in
+      let n : call_refusal file sheet settings b ≡ None = answer-none (voice_of file) (sheet_of sheet) settings m _ (ap (λ (p : Planned). p.answer) (sym e) ∙ q) in
+      let p : r ≡ answer_by (voice_of file) (sheet_of sheet) settings None = e ∙ rw n in
       let i : m ≡ summary_of (voice_of file) (sheet_of sheet) settings = same-summary (sym q ∙ ap (λ (p : Planned). p.answer) p) in
       let t : r.state ≡ fresh_of (voice_of file) settings = ap (λ (p : Planned). p.state) p in
       rw (i, t, a) (record { spoke = spoke file sheet settings b bytes n h k; text = text-is file sheet settings b bytes n })
@@ -197,5 +195,5 @@ module _ (file sheet : List ℕ) (settings : Settings) (b : Buffers) (r : Planne
 pub taken-length : (n : ℕ) (s : List ℕ) → n ≤ length s → length (take n s) ≡ n
 taken-length n s h = rw length-take (omega arith)
 
-pub refused-low : {a : Called} {c : Refusal} {n : ℕ} → a ≡ Refused c → n ≡ number_of c → n < 100000
+pub refused-low : {a : Result Summary Refusal} {c : Refusal} {n : ℕ} → a ≡ Err c → n ≡ number_of c → n < 100000
 refused-low {a} {c} e q = let l = number-low c in omega arith

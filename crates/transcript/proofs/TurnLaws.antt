@@ -1,4 +1,5 @@
 -- The pulls of a spoken call, each lent a slice that is long enough: each gives its period.
+use Rattle.std.specs.Prelude.{Err, None, Ok, Some}
 use mathlib.Core.Path.{◌≡◌, refl, sym, ap, ◌∙◌}
 use mathlib.Core.Bool.{Bool, true, false}
 use mathlib.Core.List.{List, [], ◌∷◌}
@@ -21,7 +22,6 @@ use Rattle.lpc.specs.Filter.{cut}
 use Rattle.lpc.specs.State.{fresh_state, advanced, spoken, periods_by}
 use Rattle.lpc.proofs.FilterLaws.{length_cut, length-by, by-low}
 use Rattle.lpc.proofs.StateLaws.{kept}
-use Rattle.call.specs.declared.Answer.TheVariants.{Given, Done, Refused}
 use Rattle.call.specs.declared.Pulled.{Pulled}
 use Rattle.call.specs.Pull.{Lent, lent_of, possible, next_part, leaves, pull_of}
 use Rattle.call.specs.Machine.{Shown, pulls, shows, machine}
@@ -53,9 +53,9 @@ module _ (s : FilterState) (l : Lent) where
   next_fits p = let h = place-low p in rw (length-take, length-drop) (omega arith)
 
   pull-cases : {X : Type 0} (d : List ℕ) → length l.excitation ≤ length d / 2
-      → (pull_of s l d ≡ leaves (Refused BadState) s d → X)
-      → (pull_of s l d ≡ leaves Done s d → X)
-      → (possible s l ≡ true → pull_of s l d ≡ leaves (Given (length (next_part s l).bytes)) (advanced s (next_part s l)) (over (flat (bytes_of 2) (spoken s (next_part s l))) d) → X)
+      → (pull_of s l d ≡ leaves (Err BadState) s d → X)
+      → (pull_of s l d ≡ leaves (Ok None) s d → X)
+      → (possible s l ≡ true → pull_of s l d ≡ leaves (Ok (Some (length (next_part s l).bytes))) (advanced s (next_part s l)) (over (flat (bytes_of 2) (spoken s (next_part s l))) d) → X)
       → X
   pull-cases {X} d h bad done gives = by (possible s l) refl
     where
@@ -69,7 +69,7 @@ module _ (s : FilterState) (l : Lent) where
 
 -- what a pull did where the machine has given k periods
 pub record Gave (l : Lent) (ps : List (List ℕ)) (s : FilterState) (k : ℕ) (d : List ℕ) : Type 0 where
-  pub answer : (pull_of s l d).pulled.answer ≡ Given (length (get_or ps k []))
+  pub answer : (pull_of s l d).pulled.answer ≡ Ok (Some (length (get_or ps k [])))
   pub slice : (pull_of s l d).slice ≡ over (flat (bytes_of 2) (get_or ps k [])) d
   pub goes : (ds : List (List ℕ)) → pulls (pull_of s l d).pulled.state l ds ≡ machine ps (k + 1) ds
   pub place : (pull_of s l d).pulled.state.sample_place ≡ s.sample_place + length (get_or ps k [])
@@ -87,13 +87,13 @@ module _ (l : Lent) (ps : List (List ℕ)) (s : FilterState) (k : ℕ) (d : List
   answered = ap (λ (o : Shown). o.answer) shown
 
   by-machine : length (get_or ps k []) ≤ length d / 2 → possible s l ≡ true
-      → pull_of s l d ≡ leaves (Given (length (next_part s l).bytes)) (advanced s (next_part s l)) (over (flat (bytes_of 2) (spoken s (next_part s l))) d)
+      → pull_of s l d ≡ leaves (Ok (Some (length (next_part s l).bytes))) (advanced s (next_part s l)) (over (flat (bytes_of 2) (spoken s (next_part s l))) d)
       → Gave l ps s k d
   unfolding pulls
   by-machine h p q =
       let g = shown ∙ shows-gives ps k d not_end h in
-      let a : (pull_of s l d).pulled.answer ≡ Given (length (get_or ps k [])) = ap (λ (o : Shown). o.answer) g in
-      let b : (pull_of s l d).pulled.answer ≡ Given (length (next_part s l).bytes) = ap (λ o. o.pulled.answer) q in
+      let a : (pull_of s l d).pulled.answer ≡ Ok (Some (length (get_or ps k []))) = ap (λ (o : Shown). o.answer) g in
+      let b : (pull_of s l d).pulled.answer ≡ Ok (Some (length (next_part s l).bytes)) = ap (λ o. o.pulled.answer) q in
       let n : length (next_part s l).bytes ≡ length (get_or ps k []) = cc in
       let t : (pull_of s l d).pulled.state ≡ advanced s (next_part s l) = ap (λ o. o.pulled.state) q in
       let f = next_fits s l p in
@@ -108,27 +108,27 @@ module _ (l : Lent) (ps : List (List ℕ)) (s : FilterState) (k : ℕ) (d : List
   pub gave : Gave l ps s k d
   gave = pull-cases s l d room bad done gives
     where
-      bad : pull_of s l d ≡ leaves (Refused BadState) s d → Gave l ps s k d
+      bad : pull_of s l d ≡ leaves (Err BadState) s d → Gave l ps s k d
       bad q =
-          let a : (pull_of s l d).pulled.answer ≡ Refused BadState = ap (λ o. o.pulled.answer) q in
+          let a : (pull_of s l d).pulled.answer ≡ Err BadState = ap (λ o. o.pulled.answer) q in
           let r : ◌≡◌ {A = Refusal} BadState ShortSlice = (shows-refused ps k d BadState (omega arith) (sym answered ∙ a)).0 in
           let z : ◌≡◌ {A = ℕ} 0 1 = cc in
           absurd (omega arith)
 
-      done : pull_of s l d ≡ leaves Done s d → Gave l ps s k d
+      done : pull_of s l d ≡ leaves (Ok None) s d → Gave l ps s k d
       done q =
-          let a : (pull_of s l d).pulled.answer ≡ Done = ap (λ o. o.pulled.answer) q in
+          let a : (pull_of s l d).pulled.answer ≡ (Ok None) = ap (λ o. o.pulled.answer) q in
           absurd (not_end (shows-done-all ps k d (omega arith) (sym answered ∙ a)))
 
       gives : possible s l ≡ true
-          → pull_of s l d ≡ leaves (Given (length (next_part s l).bytes)) (advanced s (next_part s l)) (over (flat (bytes_of 2) (spoken s (next_part s l))) d)
+          → pull_of s l d ≡ leaves (Ok (Some (length (next_part s l).bytes))) (advanced s (next_part s l)) (over (flat (bytes_of 2) (spoken s (next_part s l))) d)
           → Gave l ps s k d
       gives p q = by_order (length d / 2) (length (get_or ps k [])) short (λ h. by-machine h p q)
         where
           short : length d / 2 < length (get_or ps k []) → Gave l ps s k d
           short h =
-              let a : (pull_of s l d).pulled.answer ≡ Refused ShortSlice = ap (λ (o : Shown). o.answer) (shown ∙ shows-short ps k d not_end h) in
-              let b : (pull_of s l d).pulled.answer ≡ Given (length (next_part s l).bytes) = ap (λ o. o.pulled.answer) q in
+              let a : (pull_of s l d).pulled.answer ≡ Err ShortSlice = ap (λ (o : Shown). o.answer) (shown ∙ shows-short ps k d not_end h) in
+              let b : (pull_of s l d).pulled.answer ≡ Ok (Some (length (next_part s l).bytes)) = ap (λ o. o.pulled.answer) q in
               let z : ◌≡◌ {A = ℕ} 0 1 = cc in
               absurd (omega arith)
 

@@ -1,6 +1,5 @@
 -- Document 01, 'Proved examples': what its program prints of a call, for any settings.
-use Rattle.std.specs.Prelude.{◌≡◌, true, List, ◌++◌, ℕ, ◌*◌, ◌≤◌, length, take}
-use Rattle.std.proofs.Math.Option.{Option, none, some}
+use Rattle.std.specs.Prelude.{◌≡◌, true, List, ◌++◌, ℕ, ◌*◌, ◌≤◌, length, take, Err, None, Ok, Option, Result, Some}
 use Rattle.refusal.specs.declared.Refusal.{Refusal}
 use Rattle.refusal.specs.Number.{number_of}
 use Rattle.voice.specs.Header.{in_scale}
@@ -11,8 +10,6 @@ use Rattle.lpc.specs.Filter.{cut}
 use Rattle.lpc.specs.State.{fresh_state, periods_by}
 use Rattle.call.specs.declared.Settings.{Settings}
 use Rattle.call.specs.declared.Summary.{Summary}
-use Rattle.call.specs.declared.Answer.{Answer}
-use Rattle.call.specs.declared.Answer.TheVariants.{Given, Done, Refused}
 use Rattle.call.specs.Call.{periods_of}
 use Rattle.call.specs.Buffers.{Buffers, call_refusal, summary_of}
 use Rattle.call.specs.Pull.{Lent, lent_of}
@@ -28,8 +25,8 @@ spoken_text v s settings =
 
 -- 'A refusal prints only `refused`, a space and the number'; else there is this text
 abbrev pub refused_or : Option Refusal → List ℕ → List ℕ
-refused_or none text = text
-refused_or (some r) text = refused (number_of r)
+refused_or None text = text
+refused_or (Some r) text = refused (number_of r)
 
 abbrev pub text_by : Voice → Sheet → Settings → Option Refusal → List ℕ
 text_by v s settings u = refused_or u (spoken_text v s settings)
@@ -45,10 +42,10 @@ unfoldable pub periods_for : FilterState → Lent → List (List ℕ)
 periods_for s l = periods_by s.filter s.coeff_min s.coeff_range (cut s.order l.sizes l.rows l.excitation)
 
 -- how many samples a pull gave
-abbrev pub given_by : Answer → ℕ
-given_by (Given n) = n
-given_by Done = 0
-given_by (Refused r) = 0
+abbrev pub given_by : Result (Option ℕ) Refusal → ℕ
+given_by (Ok (Some n)) = n
+given_by (Ok None) = 0
+given_by (Err r) = 0
 
 -- a fresh state, lent all rows of the sizes
 pub record Fresh (s : FilterState) (l : Lent) : Type 0 where

@@ -1,18 +1,17 @@
 -- Document 01, 'Proved examples': the settings of its program, the buffers that it lends, and the limits of its files.
-use Rattle.std.specs.Prelude.{Bool, true, false, List, ℕ, ltb, length, replicate}
+use Rattle.std.specs.Prelude.{Bool, true, false, List, ℕ, ltb, length, replicate, Some}
 use Rattle.base.specs.Choice.{pick}
 use Rattle.refusal.specs.declared.Refusal.TheVariants.{ShortBuffer}
 use Rattle.refusal.specs.Number.{number_of}
 use Rattle.lpc.specs.declared.ResynthType.TheVariants.{Fixed}
 use Rattle.call.specs.declared.JoinType.TheVariants.{Simple}
-use Rattle.call.specs.declared.FilterSetting.TheVariants.{Named}
 use Rattle.call.specs.declared.Settings.{Settings}
 use Rattle.call.specs.Buffers.{Buffers, lent}
 use Rattle.lines.specs.Lines.{refused}
 
 -- 'with simple join, fixed filter, no fold'
 abbrev pub program_settings : Settings
-program_settings = record { join = Simple; filter = Named Fixed; fold = false; strict = false }
+program_settings = record { join = Simple; filter = Some Fixed; fold = false; strict = false }
 
 -- 'It starts from an excitation buffer of 4,096 bytes, all 255; .. its others 1,024 each': elements of 8, 4, 4, 2, 1 and 1 bytes
 abbrev pub program_buffers : Buffers

@@ -10,8 +10,9 @@ ghost use Rattle.call.specs.Pull.{lent_of};
 ghost use Rattle.transcript.specs.CallText as text;
 ghost use Rattle.transcript.specs.Program.{program_settings, too_long};
 
-use call::{Answer, Called, Settings, Summary};
-use lpc::FilterState;
+use call::{JoinType, Settings, Summary};
+use lpc::{FilterState, ResynthType};
+use refusal::Refusal;
 
 // The limits of document 01's program: the bytes of its voice file and of its sheet.
 pub const VOICE_LIMIT: usize = 32768;
@@ -19,30 +20,32 @@ pub const VOICE_LIMIT: usize = 32768;
 pub const SHEET_LIMIT: usize = 4096;
 
 // Whether one of the two is longer than its limit.
+#[tactic(auto, unfolding(crate::specs::Program::too_long))]
 pub fn is_too_long(voice: &[u8], sheet: &[u8]) -> bool
     ensures { result ≡ too_long voice.now sheet.now }
 {
-    if voice.len() > VOICE_LIMIT {
-        return true;
-    }
-    sheet.len() > SHEET_LIMIT
+    voice.len() > VOICE_LIMIT || sheet.len() > SHEET_LIMIT
 }
 
 // The settings of document 01's program.
 pub fn program_settings() -> Settings
     ensures { result ≡ program_settings }
 {
-    call::settings_of(call::JOIN_SIMPLE + call::FILTER_FIXED)
+    Settings {
+        join: JoinType::Simple,
+        filter: Some(ResynthType::Fixed),
+        fold: false,
+        strict: false,
+    }
 }
 
 // How many samples a pull gave.
-fn given(answer: Answer) -> usize
+fn given(answer: Result<Option<usize>, Refusal>) -> usize
     ensures { result ≡ text.given_by answer }
 {
     match answer {
-        Answer::Given(n) => n,
-        Answer::Done => 0,
-        Answer::Refused(_) => 0,
+        Ok(Some(n)) => n,
+        Ok(None) | Err(_) => 0,
     }
 }
 
@@ -65,15 +68,11 @@ fn put_periods(
     let mut samples = [0u8; 8192];
     let mut before = state;
     let mut end = at;
-    let mut number = 0;
-    while number < sizes.len() / 4 {
+    for i in 0..sizes.len() / 4 {
         let pulled = diphone::pull(before, sizes, rows, excitation, &mut samples);
-        let answer = pulled.answer;
-        let after = pulled.state;
-        let m = 2 * given(answer);
-        number += 1;
-        end = lines::put_period(number as u32, &samples[..m], out, end);
-        before = after;
+        let m = 2 * given(pulled.answer);
+        end = lines::put_period(i as u32 + 1, &samples[..m], out, end);
+        before = pulled.state;
     }
     end
 }
@@ -129,10 +128,8 @@ pub fn put_call(
     let planned = diphone::plan(
         voice, sheet, settings, index, marks, sizes, rows, excitation, decoded,
     );
-    let answer = planned.answer;
-    let state = planned.state;
-    match answer {
-        Called::Spoken(m) => put_spoken(m, state, sizes, rows, excitation, out),
-        Called::Refused(cause) => lines::put_refused(refusal::number(cause), out),
+    match planned.answer {
+        Ok(m) => put_spoken(m, planned.state, sizes, rows, excitation, out),
+        Err(cause) => lines::put_refused(u32::from(cause), out),
     }
 }

@@ -1,6 +1,5 @@
 -- Document 02, A4: computed examples.
-use Rattle.std.specs.Prelude.{◌≡◌, true, false, List, [], ◌∷◌, ◌++◌, ℕ, length}
-use Rattle.std.proofs.Math.Option.{none, some}
+use Rattle.std.specs.Prelude.{◌≡◌, true, false, List, [], ◌∷◌, ◌++◌, ℕ, length, None, Some}
 use Prim.Native.String.{String}
 use Rattle.base.specs.Text.{ascii}
 use Rattle.refusal.specs.declared.Refusal.TheVariants.{BadSheet, NotFinite, LongText}
@@ -8,7 +7,6 @@ use Rattle.voice.specs.Voice.{voice_of}
 use Rattle.sheet.specs.Sheet.{sheet_refusal, sheet_of}
 use Rattle.lpc.specs.declared.ResynthType.TheVariants.{Fixed}
 use Rattle.call.specs.declared.JoinType.TheVariants.{ModifiedLpc}
-use Rattle.call.specs.declared.FilterSetting.TheVariants.{Named}
 use Rattle.call.specs.declared.Settings.{Settings}
 use Rattle.call.specs.Call.{plan_of}
 use Rattle.call.specs.Buffers.{call_refusal}
@@ -62,10 +60,10 @@ no_pitch = sheet (typed "0.03125") (typed "+.0625 s") (typed "0") (typed "?") (t
 
 -- calls with document 01's voice, 8,000 samples a second, and its program's buffers, in the modified join
 abbrev pub modified : Settings
-modified = record { join = ModifiedLpc; filter = Named Fixed; fold = false; strict = false }
+modified = record { join = ModifiedLpc; filter = Some Fixed; fold = false; strict = false }
 
 abbrev pub Marks : List ℕ → List ℕ → Type 0
-Marks s ms = (call_refusal example_voice s modified program_buffers ≡ none) × ((plan_of (voice_of example_voice) (sheet_of s) modified).marks ≡ ms)
+Marks s ms = (call_refusal example_voice s modified program_buffers ≡ None) × ((plan_of (voice_of example_voice) (sheet_of s) modified).marks ≡ ms)
 
 pub record Examples : Type 0 where
   -- all texts as floats, the second and the fourth, none
@@ -79,11 +77,11 @@ pub record Examples : Type 0 where
   -- 'A written 0 still counts as 0 Hz, as does a text without a digit'
   pub no_digit : Marks no_pitch []
   -- 12 bytes are read, and 13 are 17 though none of them is there; cut short it is 8
-  pub twelve : sheet_refusal (one (typed "123456789.25") ++ (0 ∷ 0 ∷ [])) ≡ none
-  pub thirteen : sheet_refusal (one (3 ∷ 13 ∷ [])) ≡ some LongText
-  pub short : sheet_refusal (one (3 ∷ 12 ∷ 49 ∷ [])) ≡ some BadSheet
-  pub kind4 : sheet_refusal (one (4 ∷ 0 ∷ [])) ≡ some BadSheet
+  pub twelve : sheet_refusal (one (typed "123456789.25") ++ (0 ∷ 0 ∷ [])) ≡ None
+  pub thirteen : sheet_refusal (one (3 ∷ 13 ∷ [])) ≡ Some LongText
+  pub short : sheet_refusal (one (3 ∷ 12 ∷ 49 ∷ [])) ≡ Some BadSheet
+  pub kind4 : sheet_refusal (one (4 ∷ 0 ∷ [])) ≡ Some BadSheet
   -- whichever is met first: 17 before 9 and 8, 9 before 17, 8 (a name of 33 bytes) before 17
-  pub long_first : sheet_refusal (2 ∷ 0 ∷ 3 ∷ 13 ∷ 0 ∷ 0 ∷ infinite) ≡ some LongText
-  pub infinite_first : sheet_refusal ((2 ∷ 0 ∷ infinite) ++ (0 ∷ 0 ∷ 3 ∷ 13 ∷ [])) ≡ some NotFinite
-  pub name_first : sheet_refusal (1 ∷ 33 ∷ 3 ∷ 13 ∷ []) ≡ some BadSheet
+  pub long_first : sheet_refusal (2 ∷ 0 ∷ 3 ∷ 13 ∷ 0 ∷ 0 ∷ infinite) ≡ Some LongText
+  pub infinite_first : sheet_refusal ((2 ∷ 0 ∷ infinite) ++ (0 ∷ 0 ∷ 3 ∷ 13 ∷ [])) ≡ Some NotFinite
+  pub name_first : sheet_refusal (1 ∷ 33 ∷ 3 ∷ 13 ∷ []) ≡ Some BadSheet

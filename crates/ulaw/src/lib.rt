@@ -1,7 +1,7 @@
 // The mu-law of ITU-T G.711 on 16-bit samples.
 #![tactic(auto)]
 
-ghost use Rattle.std.specs.Prelude.{◌≡◌, ◌≤◌, ◌<◌, nat_abs};
+ghost use Rattle.std.specs.Prelude.{◌≡◌, ◌≤◌};
 ghost use Rattle.ulaw.specs.Ulaw.{sample_of, ulaw_of, last_interval};
 
 // The 16-bit sample of a mu-law byte.
@@ -12,7 +12,7 @@ pub fn ulaw_to_i16(byte: u8) -> i16
     let interval = code % 128;
     let biased = (33 + 2 * ((interval % 16) as u32)) << ((interval / 16) as u32);
     let magnitude = (4 * (biased - 33)) as i16;
-    if code < 128 { magnitude } else { 0 - magnitude }
+    if code < 128 { magnitude } else { -magnitude }
 }
 
 // From this magnitude on, a sample is in the last interval.
@@ -28,7 +28,7 @@ fn interval_of(magnitude: u32) -> u8
 {
     if magnitude < CLIP {
         let biased = magnitude + BIAS;
-        let segment = 24 - u32::leading_zeros(biased);
+        let segment = 24 - biased.leading_zeros();
         let step = (biased >> (segment + 3)) % 16;
         (16 * segment + step) as u8
     } else {
@@ -36,23 +36,11 @@ fn interval_of(magnitude: u32) -> u8
     }
 }
 
-// The magnitude of a sample.
-fn magnitude_of(sample: i16) -> u32
-    ensures { result ≡ nat_abs sample }
-{
-    let wide = sample as i32;
-    if wide < 0 {
-        (0 - wide) as u32
-    } else {
-        wide as u32
-    }
-}
-
 // The mu-law byte of a 16-bit sample.
 pub fn i16_to_ulaw(sample: i16) -> u8
     ensures { result ≡ ulaw_of sample }
 {
-    let interval = interval_of(magnitude_of(sample));
+    let interval = interval_of(u32::from(sample.unsigned_abs()));
     if sample < 0 {
         127 - interval
     } else {

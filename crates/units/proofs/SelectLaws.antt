@@ -1,8 +1,9 @@
 -- The entry of a pair: the cluster rule, an open voice's entries, and the names tried in turn.
+use Rattle.std.specs.Prelude.{None, Option, Some}
+use Rattle.std.specs.Option.{MatchOption}
 use mathlib.Core.Path.{◌≡◌, refl, sym, ap, subst, ◌∙◌}
 use mathlib.Core.Bool.{Bool, true, false, ◌&&◌, not, true≢false}
 use mathlib.Core.List.{List, [], ◌∷◌}
-use mathlib.Core.Option.{Option, none, some}
 use Prim.Native.Nat.{ℕ, zero, suc, ◌+◌, ◌≤◌}
 use native.Mathlib.Omega.{arith}
 use lib.Dec.{eqb}
@@ -27,8 +28,6 @@ use Rattle.voice.proofs.OpeningLaws.{passed, opens}
 use Rattle.voice.proofs.TableLaws.{header_is}
 use Rattle.voice.proofs.EntryLaws.{lookup-finds, stands-within}
 use Rattle.index.specs.declared.EntryPeriods.{EntryPeriods}
-use Rattle.index.specs.declared.FoundEntry.{FoundEntry}
-use Rattle.index.specs.declared.FoundEntry.TheVariants.{Found, Missing}
 use Rattle.index.specs.Index.{Filled, periods_of, found_of, first_of}
 use Rattle.index.proofs.FilledLaws.{empty-count, first-within}
 use Rattle.index.proofs.SortLaws.{Stored, each-stored, each-sort}
@@ -113,7 +112,7 @@ module _ (file : List ℕ) (d : DiphoneVoice) (o : IsOpen file d) (bs : List ℕ
       by zero e = absurd (true≢false (sym e))
       by (suc n) e = omega arith
 
-  pub found_at : (name : List ℕ) {r : FoundEntry} → r ≡ found_of (lookup name (entries_from d.count bs 0).list) → r ≡ found_of (lookup name v.entries)
+  pub found_at : (name : List ℕ) {r : Option EntryPeriods} → r ≡ found_of (lookup name (entries_from d.count bs 0).list) → r ≡ found_of (lookup name v.entries)
   found_at name e = e ∙ ap (λ (ps : List Placed). found_of (lookup name ps)) entries_at
 
   pub first-at : {r : EntryPeriods} → r ≡ periods_of (first_of (sort (entries_from d.count bs 0).list)) → r ≡ periods_of (first_of (sorted v))
@@ -133,28 +132,28 @@ module _ (v : Voice) where
   named n = lookup n v.entries
 
   else-next : (a b : Option Entry) (d : Entry) → or_else (or_next a b) d ≡ or_else a (or_else b d)
-  else-next none b d = refl
-  else-next (some x) b d = refl
+  else-next None b d = refl
+  else-next (Some x) b d = refl
 
-  found-entry : (o : Option Entry) (x : Entry) (q : EntryPeriods) → found_of o ≡ Found q → periods_of (or_else o x) ≡ q
-  found-entry none x q e = absurd (let z : ◌≡◌ {A = ℕ} 0 1 = cc in omega arith)
-  found-entry (some y) x q e = cc
+  found-entry : (o : Option Entry) (x : Entry) (q : EntryPeriods) → found_of o ≡ Some q → periods_of (or_else o x) ≡ q
+  found-entry None x q e = absurd (let z : ◌≡◌ {A = ℕ} 0 1 = cc in omega arith)
+  found-entry (Some y) x q e = cc
 
-  missing-entry : (o : Option Entry) (x : Entry) → found_of o ≡ Missing → or_else o x ≡ x
-  missing-entry none x e = refl
-  missing-entry (some y) x e = absurd (let z : ◌≡◌ {A = ℕ} 0 1 = cc in omega arith)
+  missing-entry : (o : Option Entry) (x : Entry) → found_of o ≡ None → or_else o x ≡ x
+  missing-entry None x e = refl
+  missing-entry (Some y) x e = absurd (let z : ◌≡◌ {A = ℕ} 0 1 = cc in omega arith)
 
   same_next : (a : Option Entry) → or_next a a ≡ a
-  same_next none = refl
-  same_next (some x) = refl
+  same_next None = refl
+  same_next (Some x) = refl
 
-  found-next : (a b : Option Entry) (q : EntryPeriods) → found_of a ≡ Found q → Found q ≡ found_of (or_next a b)
-  found-next none b q e = absurd (let z : ◌≡◌ {A = ℕ} 0 1 = cc in omega arith)
-  found-next (some x) b q e = sym e
+  found-next : (a b : Option Entry) (q : EntryPeriods) → found_of a ≡ Some q → Some q ≡ found_of (or_next a b)
+  found-next None b q e = absurd (let z : ◌≡◌ {A = ℕ} 0 1 = cc in omega arith)
+  found-next (Some x) b q e = sym e
 
-  missing-next : (a b : Option Entry) → found_of a ≡ Missing → or_next a b ≡ b
-  missing-next none b e = refl
-  missing-next (some x) b e = absurd (let z : ◌≡◌ {A = ℕ} 0 1 = cc in omega arith)
+  missing-next : (a b : Option Entry) → found_of a ≡ None → or_next a b ≡ b
+  missing-next None b e = refl
+  missing-next (Some x) b e = absurd (let z : ◌≡◌ {A = ℕ} 0 1 = cc in omega arith)
 
   -- the cluster's name where the rule says so, then the plain one
   tried : (ss : List SegmentRead) (left right : SegmentRead) (t : Bool) → in_cluster ss left ≡ t
@@ -165,13 +164,13 @@ module _ (v : Voice) where
 
 -- ---- an entry that is selected is one of the voice's
 
-module _ (v : Voice) (P : Entry → Type 0) (found : (n : List ℕ) (e : Entry) → lookup n v.entries ≡ some e → P e) (first : P (first_of (sorted v))) where
+module _ (v : Voice) (P : Entry → Type 0) (found : (n : List ℕ) (e : Entry) → lookup n v.entries ≡ Some e → P e) (first : P (first_of (sorted v))) where
   either : (n : List ℕ) (x : Entry) → P x → P (or_else (lookup n v.entries) x)
   either n x h = by (lookup n v.entries) refl
     where
       by : (o : Option Entry) → lookup n v.entries ≡ o → P (or_else o x)
-      by none e = h
-      by (some y) e = found n y e
+      by None e = h
+      by (Some y) e = found n y e
 
   selected-is : (ss : List SegmentRead) (left right : SegmentRead) → P (entry_of v ss left right)
   unfolding entry_of
@@ -184,7 +183,7 @@ module _ (file : List ℕ) (d : DiphoneVoice) (o : IsOpen file d) where
   abbrev frames : ℕ
   frames = (voice_of file).header.frames
 
-  named-within : (n : List ℕ) (e : Entry) → lookup n (voice_of file).entries ≡ some e → end_period e ≤ frames
+  named-within : (n : List ℕ) (e : Entry) → lookup n (voice_of file).entries ≡ Some e → end_period e ≤ frames
   named-within n e p = stands-within frames (voice_of file).entries (opens file o.fit).entries_end e (lookup-finds n (voice_of file).entries e p).stands
 
   first-entry-within : end_period (first_of (sorted (voice_of file))) ≤ frames
@@ -251,13 +250,19 @@ module _ (file : List ℕ) (d : DiphoneVoice) (o : IsOpen file d) (ss : List Seg
   selected : (e : EntryPeriods) → periods_of (entry_of (voice_of file) ss left right) ≡ e → Selected e
   selected e q = subst Selected q (refl, selected-within file d o ss left right)
 
-  pub selected-found : {e : EntryPeriods} → found_of (tried_entry (voice_of file) ss left right) ≡ Found e → Selected e
+  selected-found : {e : EntryPeriods} → found_of (tried_entry (voice_of file) ss left right) ≡ Some e → Selected e
   unfolding entry_of
   selected-found {e} q = selected e (found-entry (voice_of file) (tried_entry (voice_of file) ss left right) _ e q)
 
-  pub selected-first : found_of (tried_entry (voice_of file) ss left right) ≡ Missing → {e : EntryPeriods} → e ≡ periods_of (first_of (sorted (voice_of file))) → Selected e
+  selected-first : found_of (tried_entry (voice_of file) ss left right) ≡ None → {e : EntryPeriods} → e ≡ periods_of (first_of (sorted (voice_of file))) → Selected e
   unfolding entry_of
   selected-first m {e} q = selected e (ap (λ (x : Entry). periods_of x) (missing-entry (voice_of file) (tried_entry (voice_of file) ss left right) _ m) ∙ sym q)
+
+  -- one that is found, else the sorted first
+  pub selected-or : {o : Option EntryPeriods} → o ≡ found_of (tried_entry (voice_of file) ss left right) → {P : Type 0} {e : EntryPeriods}
+      → MatchOption o P (λ (x : EntryPeriods). e ≡ x) → (P → e ≡ periods_of (first_of (sorted (voice_of file)))) → Selected e
+  selected-or {o = None} f m p = selected-first (sym f) (p m)
+  selected-or {o = Some x} f m p = subst Selected (sym m) (selected-found (sym f))
 
 module _ (file : List ℕ) (fold : Bool) (ss : List SegmentRead) (l r : SegmentRead) (ls rs : List ℕ) (el : ls ≡ l.name) (er : rs ≡ r.name) (t : Bool) (i : t ≡ in_cluster ss l) where
   -- by names as they stand in the sheet
@@ -276,12 +281,18 @@ module _ (file : List ℕ) (fold : Bool) (ss : List SegmentRead) (l r : SegmentR
       ∙ ap (λ (n : List ℕ). or_next (by_names l.name n u) (by_names l.name n false)) er
       ∙ sym (tried (voice_of file) (folded fold ss) (folded_segment fold l) (folded_segment fold r) u (cluster-folded fold ss l ∙ sym i ∙ e))
 
-  pub tried-plain : t ≡ false → {f : FoundEntry} → f ≡ found_of (by_name false) → f ≡ found_of tried_here
+  pub tried-plain : t ≡ false → {f : Option EntryPeriods} → f ≡ found_of (by_name false) → f ≡ found_of tried_here
   tried-plain e q = q ∙ ap found_of (sym (same_next (voice_of file) (by_name false)) ∙ tried-is false e)
 
   module _ (e : t ≡ true) where
-    pub tried-found : {q : EntryPeriods} → found_of (by_name true) ≡ Found q → Found q ≡ found_of tried_here
+    tried-found : {q : EntryPeriods} → found_of (by_name true) ≡ Some q → Some q ≡ found_of tried_here
     tried-found {q} f = found-next (voice_of file) (by_name true) (by_name false) q f ∙ ap found_of (tried-is true e)
 
-    pub tried-missing : found_of (by_name true) ≡ Missing → {f : FoundEntry} → f ≡ found_of (by_name false) → f ≡ found_of tried_here
+    tried-missing : found_of (by_name true) ≡ None → {f : Option EntryPeriods} → f ≡ found_of (by_name false) → f ≡ found_of tried_here
     tried-missing m q = q ∙ ap found_of (sym (missing-next (voice_of file) (by_name true) (by_name false) m) ∙ tried-is true e)
+
+    -- what the first name finds, else what the second does
+    pub tried-or : {f : Option EntryPeriods} → f ≡ found_of (by_name true) → {P : Type 0} {g : Option EntryPeriods} → MatchOption f P (λ (x : EntryPeriods). g ≡ Some x)
+        → (P → g ≡ found_of (by_name false)) → g ≡ found_of tried_here
+    tried-or {f = None} e m p = tried-missing (sym e) (p m)
+    tried-or {f = Some x} e m p = m ∙ tried-found (sym e)

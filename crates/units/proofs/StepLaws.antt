@@ -1,4 +1,5 @@
 -- One step over the units that are still to come.
+use Rattle.std.specs.Prelude.{is_some, None, Option, Some}
 use mathlib.Core.Path.{◌≡◌, refl, sym, ap, subst, ◌∙◌}
 use mathlib.Core.Bool.{Bool, true, false}
 use mathlib.Core.List.{List, [], ◌∷◌, ◌++◌}
@@ -127,63 +128,66 @@ module _ (file : List ℕ) (bytes : Bytes file) (d : DiphoneVoice) (o : IsOpen f
 
 -- ---- unit after unit
 
-many_by : (w : UnitWalk) (t : Bool) → w.halfway ≡ t → many_left w ≡ pick t 1 0 + 2 * w.pairs.remaining
-many_by w t e = ap (λ (u : Bool). pick u 1 0 + 2 * w.pairs.remaining) e
+many_by : (w : UnitWalk) (o : Option Unit) → w.second ≡ o → many_left w ≡ pick (is_some o) 1 0 + 2 * w.pairs.remaining
+many_by w o e = ap (λ (q : Option Unit). pick (is_some q) 1 0 + 2 * w.pairs.remaining) e
 
-pub some-second : (w : UnitWalk) → w.halfway ≡ true → ltb 0 (many_left w) ≡ true
-some-second w e = let h = many_by w true e in lt-ltb 0 (many_left w) (omega arith)
+many_if : (w : UnitWalk) (t : Bool) → is_some w.second ≡ t → many_left w ≡ pick t 1 0 + 2 * w.pairs.remaining
+many_if w t e = ap (λ (u : Bool). pick u 1 0 + 2 * w.pairs.remaining) e
 
-pub some_pair : (w : UnitWalk) → w.halfway ≡ false → ltb 0 w.pairs.remaining ≡ ltb 0 (many_left w)
+pub some-second : (w : UnitWalk) → is_some w.second ≡ true → ltb 0 (many_left w) ≡ true
+some-second w e = let h = many_if w true e in lt-ltb 0 (many_left w) (omega arith)
+
+pub some_pair : (w : UnitWalk) → is_some w.second ≡ false → ltb 0 w.pairs.remaining ≡ ltb 0 (many_left w)
 some_pair w e =
-    let h = many_by w false e in
+    let h = many_if w false e in
     by_order 0 w.pairs.remaining
     (λ l. lt-ltb 0 w.pairs.remaining l ∙ sym (lt-ltb 0 (many_left w) (omega arith)))
     (λ l. le-ltb 0 w.pairs.remaining l ∙ sym (le-ltb 0 (many_left w) (omega arith)))
 
 -- where no unit waits, a pair does
-pub pair_left : (w : UnitWalk) → w.halfway ≡ false → 0 < many_left w → 0 < w.pairs.remaining
-pair_left w e l = let h = many_by w false e in omega arith
+pub pair_left : (w : UnitWalk) → w.second ≡ None → 0 < many_left w → 0 < w.pairs.remaining
+pair_left w e l = let h = many_by w None e in omega arith
 
 pub left-none : (v : Voice) (fold : Bool) (sheet : List ℕ) (count : ℕ) (w : UnitWalk) → many_left w ≡ 0 → units_left v fold sheet count w ≡ []
-left-none v fold sheet count w z = by w.halfway refl
+left-none v fold sheet count w z = by w.second refl
   where
-    by : (t : Bool) → w.halfway ≡ t → with_second t w.second (units_coming v fold sheet count w.pairs) ≡ []
-    by false e = coming-none v fold sheet count w.pairs (omega arith)
-    by true e = let h = many_by w true e in absurd (omega arith)
+    by : (o : Option Unit) → w.second ≡ o → with_second o (units_coming v fold sheet count w.pairs) ≡ []
+    by None e = coming-none v fold sheet count w.pairs (omega arith)
+    by (Some u) e = let h = many_by w (Some u) e in absurd (omega arith)
 
 pub starts-units : (sheet : List ℕ) (count : ℕ) (w : PairWalk)
     → (Walking sheet count w × (w.remaining + 1 ≡ count)) × ((sheet_of sheet).segments ≡ segment_read sheet w.left ∷ coming sheet count w)
-    → StartsUnits sheet count (record { pairs = w; second = record { first_period = 0; last_period = 0; target_end = 0; pair = 0; half = 0 }; halfway = false })
+    → StartsUnits sheet count (record { pairs = w; second = None })
 starts-units sheet count w n =
     record {
       units = λ v fold. coming-first v fold sheet count w n.0.1 n.1;
-      walking = λ frames. record { pairs = n.0.0; second = record { rising = omega arith; within = omega arith; short = omega arith } };
+      walking = λ frames. record { pairs = n.0.0; second = λ u e. absurd (let z : ◌≡◌ {A = ℕ} 0 1 = cc in omega arith) };
       many = omega (arith, n.0.1);
     }
 
 module _ (file : List ℕ) (d : DiphoneVoice) (fold : Bool) (sheet : List ℕ) (count : ℕ) (w : UnitWalk) where
-  abbrev with_half : Bool → List Unit
-  with_half t = with_second t w.second (units_coming (voice_of file) fold sheet count w.pairs)
+  abbrev with_half : Option Unit → List Unit
+  with_half o = with_second o (units_coming (voice_of file) fold sheet count w.pairs)
 
-  pub steps-second : w.halfway ≡ true → UnitWalking d.header.frames sheet count w
-      → StepsUnit file d fold sheet count w (record { unit = w.second; walk = record { pairs = w.pairs; second = w.second; halfway = false } })
-  steps-second e u =
-      let h = many_by w true e in
+  pub steps-second : (second : Unit) → w.second ≡ Some second → UnitWalking d.header.frames sheet count w
+      → StepsUnit file d fold sheet count w (record { unit = second; walk = record { pairs = w.pairs; second = None } })
+  steps-second second e u =
+      let h = many_by w (Some second) e in
       record {
         units = ap with_half e;
-        walking = record { pairs = u.pairs; second = u.second };
+        walking = record { pairs = u.pairs; second = λ v q. absurd (let z : ◌≡◌ {A = ℕ} 0 1 = cc in omega arith) };
         fewer = omega arith;
-        inside = u.second;
+        inside = u.second second e;
       }
 
-  pub steps_first : w.halfway ≡ false → (s : PairStep) → StepsPair file d fold sheet count w.pairs s
-      → StepsUnit file d fold sheet count w (record { unit = s.units.first; walk = record { pairs = s.walk; second = s.units.second; halfway = true } })
+  pub steps_first : w.second ≡ None → (s : PairStep) → StepsPair file d fold sheet count w.pairs s
+      → StepsUnit file d fold sheet count w (record { unit = s.units.first; walk = record { pairs = s.walk; second = Some s.units.second } })
   steps_first e s t =
-      let h = many_by w false e in
+      let h = many_by w None e in
       let f = t.fewer in
       record {
         units = ap with_half e ∙ t.units;
-        walking = record { pairs = t.walking; second = t.second };
+        walking = record { pairs = t.walking; second = λ v q. let r : s.units.second ≡ v = cc in subst (Inside d.header.frames) r t.second };
         fewer = omega arith;
         inside = t.first;
       }

@@ -1,8 +1,8 @@
 -- The units of a sheet on a voice head those of a longer sheet, and are those of a voice that extends it.
+use Rattle.std.specs.Prelude.{None, Option, Some}
 use mathlib.Core.Path.{◌≡◌, refl, sym, ap, subst, ◌∙◌}
 use mathlib.Core.Bool.{Bool, true, false}
 use mathlib.Core.List.{List, [], ◌∷◌, ◌++◌, map, map-append}
-use mathlib.Core.Option.{Option, none, some}
 use Prim.Native.Nat.{ℕ, zero, suc, ◌+◌, ◌≤◌, ◌<◌}
 use native.Mathlib.Nat.{le_of_suc-le-suc}
 use native.Mathlib.Omega.{arith}
@@ -49,18 +49,18 @@ record SameEntry (v w : Voice) (n : ℕ) (ss : List SegmentRead) (left right : S
 
 record Is (h : Option Entry) : Type 0 where
   entry : Entry
-  is : h ≡ some entry
+  is : h ≡ Some entry
 
 is-some : (h : Option Entry) → is_some h ≡ true → Is h
-is-some none e = absurd (let z : ◌≡◌ {A = ℕ} 0 1 = cc in omega arith)
-is-some (some e) q = record { entry = e; is = refl }
+is-some None e = absurd (let z : ◌≡◌ {A = ℕ} 0 1 = cc in omega arith)
+is-some (Some e) q = record { entry = e; is = refl }
 
 module _ (v w : Voice) (x : Extends w v) (inside : within_frames v.header.frames v.entries ≡ true) (unique : distinct w.entries ≡ true) where
-  entry_found : (ss : List SegmentRead) (left right : SegmentRead) (e : Entry) → lookup (first_tried ss left right) v.entries ≡ some e → SameEntry v w v.header.frames ss left right
+  entry_found : (ss : List SegmentRead) (left right : SegmentRead) (e : Entry) → lookup (first_tried ss left right) v.entries ≡ Some e → SameEntry v w v.header.frames ss left right
   unfolding entry_of
   entry_found ss left right e p =
       let f = lookup-finds (first_tried ss left right) v.entries e p in
-      let q : lookup (first_tried ss left right) w.entries ≡ some e = ap (λ (m : List ℕ). lookup m w.entries) (sym f.named) ∙ stands-found w.entries unique e (x.entries e f.stands) in
+      let q : lookup (first_tried ss left right) w.entries ≡ Some e = ap (λ (m : List ℕ). lookup m w.entries) (sym f.named) ∙ stands-found w.entries unique e (x.entries e f.stands) in
       record { one = e; from_v = rw p; from_w = rw q; inside = stands-within v.header.frames v.entries inside e f.stands }
 
   same-entry : (ss : List SegmentRead) (left right : SegmentRead) → is_some (first_entry v ss left right) ≡ true → SameEntry v w v.header.frames ss left right

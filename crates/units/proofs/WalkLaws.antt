@@ -1,4 +1,5 @@
 -- The walk over a sheet's segments, and the units that are still to come.
+use Rattle.std.specs.Prelude.{Ok}
 use mathlib.Core.Path.{◌≡◌, refl, sym, ap, subst, ◌∙◌}
 use mathlib.Core.Bool.{Bool, true, false, ◌||◌, true≢false}
 use mathlib.Core.List.{List, [], ◌∷◌}
@@ -15,7 +16,6 @@ use Rattle.sheet.specs.Answers.{reads, segment_read, SegmentSaid}
 use Rattle.sheet.specs.Places.{is_read, answer_in, sheet_places}
 use Rattle.sheet.specs.declared.Segment.{Segment}
 use Rattle.sheet.specs.declared.Places.{Places}
-use Rattle.sheet.specs.declared.SheetAnswer.TheVariants.{Read}
 use Rattle.sheet.proofs.SheetLaws.{came, formed}
 use Rattle.sheet.proofs.WalkLaws.{Ahead, ahead-some, ahead_step}
 use Rattle.sheet.proofs.ReadLaws.{sheet-ahead}
@@ -79,7 +79,7 @@ module _ (sheet : List ℕ) (count n at : ℕ) (r : is_read (segments_at sheet c
       )
 
 -- the walk from the first segment on
-module _ (sheet : List ℕ) (p : Places) (e : answer_in (sheet_places sheet) ≡ Read p) where
+module _ (sheet : List ℕ) (p : Places) (e : answer_in (sheet_places sheet) ≡ Ok p) where
   abbrev all : Got (List SegmentRead)
   all = segments_at sheet p.segments.count p.segments.count p.segments.at
 

@@ -1,6 +1,5 @@
 -- Document 01, 'Selecting and marking': the entry of each adjacent pair of segments.
-use Rattle.std.specs.Prelude.{Bool, true, false, ◌&&◌, not, List, [], ◌∷◌, ◌++◌, map, ℕ}
-use Rattle.std.proofs.Math.Option.{Option, none, some}
+use Rattle.std.specs.Prelude.{Bool, true, false, ◌&&◌, not, List, [], ◌∷◌, ◌++◌, map, ℕ, None, Option, Some}
 use Rattle.base.specs.Choice.{pick}
 use Rattle.base.specs.Text.{ascii}
 use Rattle.base.specs.Lists.{or_next}
@@ -57,8 +56,8 @@ first_tried ss left right = pick (in_cluster ss left) (cluster_name left.name ri
 -- ---- the entry of a pair
 
 abbrev pub or_else : Option Entry → Entry → Entry
-or_else none d = d
-or_else (some e) d = e
+or_else None d = d
+or_else (Some e) d = e
 
 -- the entry of its first-tried name
 abbrev pub first_entry : Voice → List SegmentRead → SegmentRead → SegmentRead → Option Entry

@@ -1,6 +1,5 @@
 -- Document 01, 'Selecting and marking': halves and target ends; document 02, A9: target ends to the nearest sample.
-use Rattle.std.specs.Prelude.{List, [], ◌∷◌, ◌++◌, false, ℕ, suc, ◌+◌, ◌≤◌, max, leb, pos, Float}
-use Rattle.std.proofs.Math.Option.{Option, none, some}
+use Rattle.std.specs.Prelude.{List, [], ◌∷◌, ◌++◌, false, ℕ, suc, ◌+◌, ◌≤◌, max, leb, pos, Float, Err, None, Ok, Option, Result, Some}
 use Rattle.std.specs.Float.{fin, binary32}
 use Rattle.std.specs.Float.Ieee.{add, mul, div, of_int}
 use Rattle.base.specs.Choice.{pick}
@@ -14,8 +13,6 @@ use Rattle.sheet.specs.Sheet.{SegmentRead, as_f32}
 use Rattle.units.specs.declared.Unit.{Unit}
 use Rattle.units.specs.declared.UnitPair.{UnitPair}
 use Rattle.units.specs.declared.TargetEnds.{TargetEnds}
-use Rattle.units.specs.declared.CheckedEnds.{CheckedEnds}
-use Rattle.units.specs.declared.CheckedEnds.TheVariants as checked
 use Rattle.units.specs.Selecting.{entry_of}
 
 -- a time in seconds × rate, in f32
@@ -79,22 +76,22 @@ limit = 16777215
 
 -- 11 at the first target end above the limit, in unit order
 unfoldable pub end_refusal : List Unit → Option Refusal
-end_refusal [] = none
-end_refusal (u ∷ us) = pick (leb u.target_end limit) (end_refusal us) (some PastLimit)
+end_refusal [] = None
+end_refusal (u ∷ us) = pick (leb u.target_end limit) (end_refusal us) (Some PastLimit)
 
 -- the greatest target end, 0 where there is no unit
 unfoldable pub greatest_end : List Unit → ℕ
 greatest_end [] = 0
 greatest_end (u ∷ us) = max u.target_end (greatest_end us)
 
-abbrev pub answered_ends : Option Refusal → ℕ → CheckedEnds
-answered_ends none greatest = checked.Fit greatest
-answered_ends (some r) greatest = checked.PastLimit
+abbrev pub answered_ends : Option Refusal → ℕ → Result ℕ Refusal
+answered_ends None greatest = Ok greatest
+answered_ends (Some r) greatest = Err r
 
 -- the refusal, or the greatest target end
-unfoldable pub checked_ends : List Unit → CheckedEnds
+unfoldable pub checked_ends : List Unit → Result ℕ Refusal
 checked_ends us = answered_ends (end_refusal us) (greatest_end us)
 
-abbrev pub greatest_in : CheckedEnds → ℕ
-greatest_in (checked.Fit greatest) = greatest
-greatest_in checked.PastLimit = 0
+abbrev pub greatest_in : Result ℕ Refusal → ℕ
+greatest_in (Ok greatest) = greatest
+greatest_in (Err r) = 0

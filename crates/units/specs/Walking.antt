@@ -1,5 +1,5 @@
 -- Inner: A walk over the adjacent pairs of a sheet's segments.
-use Rattle.std.specs.Prelude.{◌≡◌, Bool, true, false, List, [], ◌∷◌, ◌++◌, ◌⊎◌, ℕ, ◌+◌, ◌-◌, ◌*◌, ◌<◌, drop, get_or}
+use Rattle.std.specs.Prelude.{◌≡◌, Bool, true, List, [], ◌∷◌, ◌++◌, ◌⊎◌, ℕ, ◌+◌, ◌-◌, ◌*◌, ◌<◌, drop, get_or, is_some, None, Option, Some}
 use Rattle.base.specs.Choice.{pick}
 use Rattle.voice.specs.declared.DiphoneVoice.{DiphoneVoice}
 use Rattle.voice.specs.Voice.{Voice, voice_of}
@@ -67,20 +67,20 @@ pub record StepsPair (file : List ℕ) (d : DiphoneVoice) (fold : Bool) (sheet :
 
 -- ---- unit after unit
 
-abbrev pub with_second : Bool → Unit → List Unit → List Unit
-with_second true u us = u ∷ us
-with_second false u us = us
+abbrev pub with_second : Option Unit → List Unit → List Unit
+with_second (Some u) us = u ∷ us
+with_second None us = us
 
 abbrev pub units_left : Voice → Bool → List ℕ → ℕ → UnitWalk → List Unit
-units_left v fold sheet count w = with_second w.halfway w.second (units_coming v fold sheet count w.pairs)
+units_left v fold sheet count w = with_second w.second (units_coming v fold sheet count w.pairs)
 
 -- how many they are
 abbrev pub many_left : UnitWalk → ℕ
-many_left w = pick w.halfway 1 0 + 2 * w.pairs.remaining
+many_left w = pick (is_some w.second) 1 0 + 2 * w.pairs.remaining
 
 pub record UnitWalking (frames : ℕ) (sheet : List ℕ) (count : ℕ) (w : UnitWalk) : Type 0 where
   pub pairs : Walking sheet count w.pairs
-  pub second : Inside frames w.second
+  pub second : (u : Unit) → w.second ≡ Some u → Inside frames u
 
 -- a walk from the first unit on has them all before it
 pub record StartsUnits (sheet : List ℕ) (count : ℕ) (w : UnitWalk) : Type 0 where

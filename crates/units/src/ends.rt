@@ -44,27 +44,17 @@ pub fn unit_pair(pair: usize, rate: u32, e: EntryPeriods, left: Value, right: Va
             first_period: e.start,
             last_period: middle,
             target_end: ends.first,
-            pair: pair,
+            pair,
             half: 1,
         },
         second: Unit {
             first_period: middle,
             last_period: middle + e.second,
             target_end: ends.second,
-            pair: pair,
+            pair,
             half: 2,
         },
     }
-}
-
-// The greater of two numbers.
-fn greater(a: usize, b: usize) -> usize
-    ensures { result ≡ max a b }
-{
-    if a < b {
-        return b;
-    }
-    a
 }
 
 // The greatest of a number and the target ends of a pair.
@@ -74,5 +64,5 @@ pub fn greatest_with(greatest: usize, rate: u32, left: Value, right: Value) -> u
         (units.samples_at rate (units.midway (sheets.as_f32 left) (sheets.as_f32 right)))) }
 {
     let ends = target_ends(rate, left, right);
-    greater(greatest, greater(ends.first, ends.second))
+    greatest.max(ends.first).max(ends.second)
 }

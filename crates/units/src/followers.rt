@@ -1,6 +1,6 @@
 // The name of a follower, by the places of every 16th segment. A `requires` here is what the caller
 // has tested.
-ghost use Rattle.std.specs.Prelude.{◌≡◌, ℕ, ◌+◌, ◌≤◌, ◌<◌, length, get_or};
+ghost use Rattle.std.specs.Prelude.{◌≡◌, ℕ, ◌+◌, ◌≤◌, ◌<◌, length, get_or, Ok};
 ghost use Rattle.sheet.specs.Sheet.{sheet_of};
 ghost use Rattle.sheet.specs.Answers.{bytes_at};
 ghost use Rattle.sheet.specs.Followers.{name_of};
@@ -9,7 +9,7 @@ ghost use Rattle.units.specs.Asked.{Named, Numbered};
 ghost use Rattle.units.specs.Walking.{Sampled, Kept};
 
 use base::Span;
-use sheet::{Places, Segment, SheetAnswer};
+use sheet::{Places, Segment};
 
 // No place is kept. No segment stands at place 0: a sheet begins with the count of its segments.
 fn no_places() -> [usize; 256]
@@ -22,27 +22,22 @@ fn no_places() -> [usize; 256]
 fn keep(sampled: &mut [usize; 256], number: usize, at: usize)
     ensures { Kept number at sampled.old sampled.new }
 {
-    if number % 16 != 0 {
-        return;
+    if number % 16 == 0 && number < 4096 {
+        sampled[number / 16] = at;
     }
-    if 4096 <= number {
-        return;
-    }
-    sampled[number / 16] = at;
 }
 
 // Where every 16th segment of a sheet stands, from the first on.
 pub fn sample(sheet: &[u8], places: Places) -> [usize; 256]
-    requires { (answer_in (sheet_places sheet.now) ≡ SheetAnswer.Read places) × (0 < places.segments.count) }
+    requires { (answer_in (sheet_places sheet.now) ≡ Ok places) × (0 < places.segments.count) }
     ensures { Sampled sheet.now places.segments.count result }
 {
-    let segments = places.segments;
-    let count = segments.count;
+    let count = places.segments.count;
     let mut sampled = no_places();
-    keep(&mut sampled, 0, segments.at);
+    keep(&mut sampled, 0, places.segments.at);
     let mut walk = super::walk::first_pair(sheet, places);
-    while 0 < walk.remaining {
-        keep(&mut sampled, count - walk.remaining, walk.next);
+    for number in 1..count {
+        keep(&mut sampled, number, walk.next);
         walk = super::walk::next_pair(sheet, count, walk);
     }
     sampled
@@ -52,33 +47,28 @@ pub fn sample(sheet: &[u8], places: Places) -> [usize; 256]
 fn kept_place(sampled: &[usize; 256], j: usize) -> usize
     ensures { 0 < result → result ≡ get_or sampled.now j 0 }
 {
-    if j < 256 {
-        return sampled[j];
-    }
-    0
+    sampled.get(j).copied().unwrap_or(0)
 }
 
 // Where the name of the segment with a number from 1 stands, by a walk from the nearest place.
 fn name_near(sheet: &[u8], places: Places, sampled: &[usize; 256], number: usize) -> Span
-    requires { (answer_in (sheet_places sheet.now) ≡ SheetAnswer.Read places) ×
+    requires { (answer_in (sheet_places sheet.now) ≡ Ok places) ×
         (Sampled sheet.now places.segments.count sampled.now ×
         ((0 < number) × (number ≤ places.segments.count))) }
     ensures { (bytes_at sheet.now result ≡ name_of (sheet_of sheet.now).segments number) ×
         (result.at + result.len ≤ length sheet.now) }
 {
-    let segments = places.segments;
-    let count = segments.count;
+    let count = places.segments.count;
     let from = (number - 1) / 16;
     let at = kept_place(sampled, from);
     if at == 0 {
         return sheet::name_of(sheet, places, number);
     }
     let mut walk = super::walk::walk_at(sheet, count, 16 * from, at);
-    while count - walk.remaining < number {
+    for _ in 0..(number - 1) % 16 {
         walk = super::walk::next_pair(sheet, count, walk);
     }
-    let left = walk.left;
-    left.name
+    walk.left.name
 }
 
 // Where the name of a follower stands. `number` is the right segment's, which is the follower as a
@@ -91,7 +81,7 @@ pub fn follower_name(
     right: Segment,
     number: usize,
 ) -> Span
-    requires { (answer_in (sheet_places sheet.now) ≡ SheetAnswer.Read places) ×
+    requires { (answer_in (sheet_places sheet.now) ≡ Ok places) ×
         (Sampled sheet.now places.segments.count sampled.now ×
         (Named sheet.now right × Numbered sheet.now right number)) }
     ensures { (bytes_at sheet.now result ≡ name_of (sheet_of sheet.now).segments follower) ×
@@ -100,11 +90,8 @@ pub fn follower_name(
     if follower == number {
         return right.name;
     }
-    let segments = places.segments;
-    if 0 < follower {
-        if follower <= segments.count {
-            return name_near(sheet, places, sampled, follower);
-        }
+    if 0 < follower && follower <= places.segments.count {
+        return name_near(sheet, places, sampled, follower);
     }
     sheet::name_of(sheet, places, follower)
 }

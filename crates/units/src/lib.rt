@@ -36,11 +36,8 @@ impl Unit {
         ensures { result ≡ ending_at self end }
     {
         Unit {
-            first_period: self.first_period,
-            last_period: self.last_period,
             target_end: end,
-            pair: self.pair,
-            half: self.half,
+            ..self
         }
     }
 }
@@ -57,13 +54,6 @@ pub struct UnitPair {
 pub struct TargetEnds {
     pub first: usize,
     pub second: usize,
-}
-
-// The greatest target end of some units, 0 where there is none; or one is above the limit.
-#[derive(Clone, Copy)]
-pub enum CheckedEnds {
-    PastLimit,
-    Fit(usize),
 }
 
 // A walk over the pairs of a sheet: the left segment of the next pair, the place of the right one,
@@ -86,8 +76,7 @@ pub struct PairStep {
 #[derive(Clone, Copy)]
 pub struct UnitWalk {
     pub pairs: PairWalk,
-    pub second: Unit,
-    pub halfway: bool,
+    pub second: Option<Unit>,
 }
 
 // A unit, and the walk after it.

@@ -10,10 +10,8 @@ fn put_name(name: &[u8], fold: bool, buf: &mut [u8])
     ensures { buf.new ≡ over (folded_name fold name.now) buf.old }
 {
     base::bytes::copy(name, buf);
-    if fold {
-        if text::same(name, b"ah") {
-            buf[1] = b'a';
-        }
+    if fold && text::same(name, b"ah") {
+        buf[1] = b'a';
     }
 }
 

@@ -1,5 +1,5 @@
 // The entry of each adjacent pair of segments. A `requires` here is what the caller has tested.
-ghost use Rattle.std.specs.Prelude.{◌≡◌, ◌+◌, ◌≤◌, length};
+ghost use Rattle.std.specs.Prelude.{◌≡◌, ◌+◌, ◌≤◌, length, Ok};
 ghost use Rattle.phoneset.specs.Phones.{is_minus};
 ghost use Rattle.voice.specs.Voice as voices;
 ghost use Rattle.index.specs.Index.{periods_of, found_of, first_of};
@@ -12,19 +12,15 @@ ghost use Rattle.units.specs.Selecting as selecting;
 ghost use Rattle.units.specs.Selecting.{folded_name};
 
 use super::{Held, Selection};
-use index::{EntryPeriods, FoundEntry};
+use index::EntryPeriods;
 use phoneset::Vc;
-use sheet::{Places, Segment, SheetAnswer};
+use sheet::{Places, Segment};
 
 // Whether a feature `vc` is `-`.
 fn is_minus(vc: Vc) -> bool
     ensures { result ≡ is_minus vc }
 {
-    match vc {
-        Vc::Plus => false,
-        Vc::Minus => true,
-        Vc::Zero => false,
-    }
+    vc == Vc::Minus
 }
 
 // Whether a phone is no vowel and its follower's `vc` is `-`. Folding changes neither.
@@ -36,7 +32,7 @@ fn in_cluster(
     right: Segment,
     number: usize,
 ) -> bool
-    requires { (answer_in (sheet_places sheet.now) ≡ SheetAnswer.Read places) ×
+    requires { (answer_in (sheet_places sheet.now) ≡ Ok places) ×
         (Sampled sheet.now places.segments.count sampled.now ×
         (Named sheet.now left × (Named sheet.now right × Numbered sheet.now right number))) }
     ensures { result ≡ selecting.in_cluster (sheet_of sheet.now).segments (segment_read sheet.now left) }
@@ -56,14 +52,13 @@ fn in_cluster(
 }
 
 // What the voice has under a name: by what the index buffer holds, else in file order.
-fn find_name(file: &[u8], index: &[u8], by: Selection, name: &[u8]) -> FoundEntry
+fn find_name(file: &[u8], index: &[u8], by: Selection, name: &[u8]) -> Option<EntryPeriods>
     requires { Searchable file.now index.now by }
     ensures { result ≡ found_of (voices.lookup name.now (voices.voice_of file.now).entries) }
 {
     let entries = voice::sections::bytes_at(file, by.voice.entries);
     let count = by.voice.count;
-    let held = by.held;
-    match held {
+    match by.held {
         Held::Nothing => search::lookup(entries, count, name),
         Held::Sorted => search::find(entries, count, by.voice.entries.at, index, name),
         Held::Sparse(spacing) => sparse::find(entries, count, spacing, index, name),
@@ -77,8 +72,7 @@ fn first_entry(file: &[u8], index: &[u8], by: Selection) -> EntryPeriods
 {
     let entries = voice::sections::bytes_at(file, by.voice.entries);
     let count = by.voice.count;
-    let held = by.held;
-    match held {
+    match by.held {
         Held::Nothing => search::smallest(entries, count),
         Held::Sorted => search::first_sorted(entries, count, by.voice.entries.at, index),
         Held::Sparse(spacing) => sparse::first(entries, count, spacing, index),
@@ -93,7 +87,7 @@ fn find_pair(
     left: &[u8],
     right: &[u8],
     cluster: bool,
-) -> FoundEntry
+) -> Option<EntryPeriods>
     requires { Searchable file.now index.now by × ((length left.now ≤ 32) × (length right.now ≤ 32)) }
     ensures { result ≡ found_of
         (voices.lookup
@@ -116,9 +110,9 @@ pub fn find_tried(
     left: Segment,
     right: Segment,
     number: usize,
-) -> FoundEntry
+) -> Option<EntryPeriods>
     requires { Searchable file.now index.now by ×
-        ((answer_in (sheet_places sheet.now) ≡ SheetAnswer.Read by.places) ×
+        ((answer_in (sheet_places sheet.now) ≡ Ok by.places) ×
         (Sampled sheet.now by.places.segments.count sampled.now ×
         (Named sheet.now left × (Named sheet.now right × Numbered sheet.now right number)))) }
     ensures { result ≡ found_of
@@ -132,10 +126,8 @@ pub fn find_tried(
     if !in_cluster(sheet, by.places, sampled, left, right, number) {
         return find_pair(file, index, by, left_name, right_name, false);
     }
-    match find_pair(file, index, by, left_name, right_name, true) {
-        FoundEntry::Found(e) => FoundEntry::Found(e),
-        FoundEntry::Missing => find_pair(file, index, by, left_name, right_name, false),
-    }
+    let tried = find_pair(file, index, by, left_name, right_name, true);
+    tried.or_else(|| find_pair(file, index, by, left_name, right_name, false))
 }
 
 // The entry of a pair of segments: one that it finds, else the sorted first.
@@ -150,7 +142,7 @@ pub fn select(
     number: usize,
 ) -> EntryPeriods
     requires { Searchable file.now index.now by ×
-        ((answer_in (sheet_places sheet.now) ≡ SheetAnswer.Read by.places) ×
+        ((answer_in (sheet_places sheet.now) ≡ Ok by.places) ×
         (Sampled sheet.now by.places.segments.count sampled.now ×
         (Named sheet.now left × (Named sheet.now right × Numbered sheet.now right number)))) }
     ensures { (result ≡ periods_of
@@ -160,8 +152,6 @@ pub fn select(
         (selecting.folded_segment by.fold (segment_read sheet.now right)))) ×
         (result.start + result.first + result.second ≤ by.voice.header.frames) }
 {
-    match find_tried(file, index, sheet, by, sampled, left, right, number) {
-        FoundEntry::Found(e) => e,
-        FoundEntry::Missing => first_entry(file, index, by),
-    }
+    let tried = find_tried(file, index, sheet, by, sampled, left, right, number);
+    tried.unwrap_or_else(|| first_entry(file, index, by))
 }

@@ -1,12 +1,12 @@
 // The units of a call, pair after pair and unit after unit. A `requires` here is what the caller has
 // tested.
-ghost use Rattle.std.specs.Prelude.{◌≡◌, ◌<◌, ltb};
+ghost use Rattle.std.specs.Prelude.{◌≡◌, ◌<◌, ltb, Ok};
 ghost use Rattle.sheet.specs.Places.{answer_in, sheet_places};
 ghost use Rattle.units.specs.Asked.{Searchable};
 ghost use Rattle.units.specs.Walking.{Walking, Sampled, StepsPair, many_left, UnitWalking, StartsUnits, StepsUnit};
 
-use super::{PairStep, PairWalk, Selection, Unit, UnitStep, UnitWalk};
-use sheet::{Places, SheetAnswer};
+use super::{PairStep, PairWalk, Selection, UnitStep, UnitWalk};
+use sheet::Places;
 
 // The units of the next pair.
 pub fn next_units(
@@ -18,42 +18,30 @@ pub fn next_units(
     walk: PairWalk,
 ) -> PairStep
     requires { Searchable file.now index.now by ×
-        ((answer_in (sheet_places sheet.now) ≡ SheetAnswer.Read by.places) ×
+        ((answer_in (sheet_places sheet.now) ≡ Ok by.places) ×
         (Sampled sheet.now by.places.segments.count sampled.now ×
         (Walking sheet.now by.places.segments.count walk × (0 < walk.remaining)))) }
     ensures { StepsPair file.now by.voice by.fold sheet.now by.places.segments.count walk result }
 {
-    let segments = by.places.segments;
-    let after = super::walk::next_pair(sheet, segments.count, walk);
+    let count = by.places.segments.count;
+    let after = super::walk::next_pair(sheet, count, walk);
     let left = walk.left;
     let right = after.left;
-    let number = segments.count - after.remaining;
+    let number = count - after.remaining;
     let e = super::select::select(file, index, sheet, by, sampled, left, right, number);
-    let from = left.end;
-    let to = right.end;
-    let pair = segments.count - walk.remaining;
-    let units = super::ends::unit_pair(pair, by.voice.header.rate, e, from, to);
-    PairStep {
-        units: units,
-        walk: after,
-    }
+    let pair = count - walk.remaining;
+    let units = super::ends::unit_pair(pair, by.voice.header.rate, e, left.end, right.end);
+    PairStep { units, walk: after }
 }
 
 // The walk from the first unit on.
 pub fn first_unit(sheet: &[u8], places: Places) -> UnitWalk
-    requires { (answer_in (sheet_places sheet.now) ≡ SheetAnswer.Read places) × (0 < places.segments.count) }
+    requires { (answer_in (sheet_places sheet.now) ≡ Ok places) × (0 < places.segments.count) }
     ensures { StartsUnits sheet.now places.segments.count result }
 {
     UnitWalk {
         pairs: super::walk::first_pair(sheet, places),
-        second: Unit {
-            first_period: 0,
-            last_period: 0,
-            target_end: 0,
-            pair: 0,
-            half: 0,
-        },
-        halfway: false,
+        second: None,
     }
 }
 
@@ -61,11 +49,7 @@ pub fn first_unit(sheet: &[u8], places: Places) -> UnitWalk
 pub fn has_unit(walk: UnitWalk) -> bool
     ensures { result ≡ ltb 0 (many_left walk) }
 {
-    if walk.halfway {
-        return true;
-    }
-    let pairs = walk.pairs;
-    0 < pairs.remaining
+    walk.second.is_some() || 0 < walk.pairs.remaining
 }
 
 // The next unit. `sampled` has where every 16th segment stands.
@@ -78,34 +62,28 @@ pub fn next_unit(
     walk: UnitWalk,
 ) -> UnitStep
     requires { Searchable file.now index.now by ×
-        ((answer_in (sheet_places sheet.now) ≡ SheetAnswer.Read by.places) ×
+        ((answer_in (sheet_places sheet.now) ≡ Ok by.places) ×
         (Sampled sheet.now by.places.segments.count sampled.now ×
         (UnitWalking by.voice.header.frames sheet.now by.places.segments.count walk × (0 < many_left walk)))) }
     ensures { StepsUnit file.now by.voice by.fold sheet.now by.places.segments.count walk result }
 {
-    let pairs = walk.pairs;
-    let second = walk.second;
-    if walk.halfway {
-        return UnitStep {
+    match walk.second {
+        Some(second) => UnitStep {
             unit: second,
             walk: UnitWalk {
-                pairs: pairs,
-                second: second,
-                halfway: false,
+                second: None,
+                ..walk
             },
-        };
-    }
-    let step = next_units(file, index, sheet, by, sampled, pairs);
-    let units = step.units;
-    let first = units.first;
-    let last = units.second;
-    let after = step.walk;
-    UnitStep {
-        unit: first,
-        walk: UnitWalk {
-            pairs: after,
-            second: last,
-            halfway: true,
         },
+        None => {
+            let step = next_units(file, index, sheet, by, sampled, walk.pairs);
+            UnitStep {
+                unit: step.units.first,
+                walk: UnitWalk {
+                    pairs: step.walk,
+                    second: Some(step.units.second),
+                },
+            }
+        }
     }
 }

@@ -1,6 +1,6 @@
 // The pairs of a sheet's segments, one after the other. A `requires` here is what the caller has
 // tested.
-ghost use Rattle.std.specs.Prelude.{◌≡◌, Bool, true, ◌∷◌, ◌+◌, ◌≤◌, ◌<◌};
+ghost use Rattle.std.specs.Prelude.{◌≡◌, Bool, true, ◌∷◌, ◌+◌, ◌≤◌, ◌<◌, Ok};
 ghost use Rattle.voice.specs.Voice.{Voice};
 ghost use Rattle.sheet.specs.Sheet.{sheet_of};
 ghost use Rattle.sheet.specs.Answers.{segment_read};
@@ -9,8 +9,9 @@ ghost use Rattle.units.specs.Selecting.{folded};
 ghost use Rattle.units.specs.Units.{units_of, limit, greatest_end, checked_ends, greatest_in};
 ghost use Rattle.units.specs.Walking.{Reached, Starts, Walking, list_in, segments_at, coming};
 
-use super::{CheckedEnds, PairWalk};
-use sheet::{Places, SheetAnswer};
+use super::PairWalk;
+use refusal::Refusal;
+use sheet::Places;
 
 // The walk from the first of `n` segments on, of a sheet that has `count`.
 fn walk_from(sheet: &[u8], count: usize, n: usize, at: usize) -> PairWalk
@@ -19,11 +20,10 @@ fn walk_from(sheet: &[u8], count: usize, n: usize, at: usize) -> PairWalk
         (list_in (segments_at sheet.now count n at) ≡
         segment_read sheet.now result.left ∷ coming sheet.now count result) }
 {
-    let step = sheet::segment_at(sheet, at, count);
-    let segment = step.segment;
+    let read = sheet::segment_at(sheet, at, count);
     PairWalk {
-        left: segment,
-        next: step.next,
+        left: read.value,
+        next: read.next,
         remaining: n - 1,
     }
 }
@@ -38,7 +38,7 @@ pub fn walk_at(sheet: &[u8], count: usize, number: usize, at: usize) -> PairWalk
 
 // The walk from the first segment on.
 pub fn first_pair(sheet: &[u8], places: Places) -> PairWalk
-    requires { (answer_in (sheet_places sheet.now) ≡ SheetAnswer.Read places) × (0 < places.segments.count) }
+    requires { (answer_in (sheet_places sheet.now) ≡ Ok places) × (0 < places.segments.count) }
     ensures { (Walking sheet.now places.segments.count result × (result.remaining + 1 ≡ places.segments.count)) ×
         ((sheet_of sheet.now).segments ≡
         segment_read sheet.now result.left ∷ coming sheet.now places.segments.count result) }
@@ -60,32 +60,28 @@ pub fn next_pair(sheet: &[u8], count: usize, walk: PairWalk) -> PairWalk
 // The greatest target end of a sheet's units at a voice's rate, 0 where there is none. No entry is
 // looked up.
 fn greatest_end(sheet: &[u8], places: Places, rate: u32) -> usize
-    requires { answer_in (sheet_places sheet.now) ≡ SheetAnswer.Read places }
+    requires { answer_in (sheet_places sheet.now) ≡ Ok places }
     ensures { (v : Voice) (fold : Bool) →
         v.header.rate ≡ rate →
         result ≡ greatest_end (units_of v (folded fold (sheet_of sheet.now).segments)) }
 {
-    let segments = places.segments;
-    let count = segments.count;
+    let count = places.segments.count;
     if count == 0 {
         return 0;
     }
     let mut walk = first_pair(sheet, places);
     let mut greatest = 0;
-    while 0 < walk.remaining {
-        let left = walk.left;
-        let from = left.end;
+    for _ in 1..count {
+        let from = walk.left.end;
         walk = next_pair(sheet, count, walk);
-        let right = walk.left;
-        let to = right.end;
-        greatest = super::ends::greatest_with(greatest, rate, from, to);
+        greatest = super::ends::greatest_with(greatest, rate, from, walk.left.end);
     }
     greatest
 }
 
 // Works out the target ends of a sheet's units at a voice's rate, which no setting changes.
-pub fn check_ends(sheet: &[u8], places: Places, rate: u32) -> CheckedEnds
-    requires { answer_in (sheet_places sheet.now) ≡ SheetAnswer.Read places }
+pub fn check_ends(sheet: &[u8], places: Places, rate: u32) -> Result<usize, Refusal>
+    requires { answer_in (sheet_places sheet.now) ≡ Ok places }
     ensures { ((v : Voice) (fold : Bool) →
         v.header.rate ≡ rate →
         result ≡ checked_ends (units_of v (folded fold (sheet_of sheet.now).segments))) ×
@@ -93,7 +89,7 @@ pub fn check_ends(sheet: &[u8], places: Places, rate: u32) -> CheckedEnds
 {
     let greatest = greatest_end(sheet, places, rate);
     if super::LIMIT < greatest {
-        return CheckedEnds::PastLimit;
+        return Err(Refusal::PastLimit);
     }
-    CheckedEnds::Fit(greatest)
+    Ok(greatest)
 }

@@ -1,11 +1,11 @@
 -- A filter left unnamed is float.
+use Rattle.std.specs.Prelude.{None, Option, Some}
+use Rattle.lpc.specs.declared.ResynthType.{ResynthType}
 use mathlib.Core.Path.{◌≡◌, refl, sym, ap, ◌∙◌}
 use Prim.Native.Nat.{ℕ, zero, suc, ◌/◌, ◌%◌, ◌≤◌}
 use native.Mathlib.Omega.{arith}
 use borrow.Author.Tests.{ne_eqb}
 use Rattle.lpc.specs.declared.ResynthType.TheVariants.{Fixed, Float}
-use Rattle.call.specs.declared.FilterSetting.{FilterSetting}
-use Rattle.call.specs.declared.FilterSetting.TheVariants.{Unnamed, Named}
 use Rattle.call.specs.declared.Settings.{Settings}
 use Rattle.call.specs.Call.{filter_by}
 use Rattle.call.specs.Numbers.{join_of, filter_of, is_set, settings_of}
@@ -15,10 +15,10 @@ use Rattle.unnamed.proofs.AlikeLaws.{alike}
 use Rattle.unnamed.proofs.Makes.{can-be-made}
 
 -- settings that end up with one filter, and are else the same
-same_by : (o : Settings) (f g : FilterSetting) → filter_by f ≡ filter_by g → SameSettings (chosen o f) (chosen o g)
+same_by : (o : Settings) (f g : Option ResynthType) → filter_by f ≡ filter_by g → SameSettings (chosen o f) (chosen o g)
 same_by o f g e = record { join = refl; filter = e; fold = refl; strict = refl }
 
-fixed-other : (o : Settings) → SameSettings (chosen o Unnamed) (chosen o (Named Fixed)) → ⊥
+fixed-other : (o : Settings) → SameSettings (chosen o None) (chosen o (Some Fixed)) → ⊥
 fixed-other o s =
     let f = s.filter in
     let z : ◌≡◌ {A = ℕ} 0 1 = cc in

@@ -1,12 +1,11 @@
 -- What a call answers and leaves reads of its filter alone which one it ends up with.
+use Rattle.std.specs.Prelude.{None, Option, Some}
 use mathlib.Core.Path.{◌≡◌, refl, sym, ap, ◌∙◌}
 use mathlib.Core.List.{List}
-use mathlib.Core.Option.{Option, none, some}
 use Prim.Native.Nat.{ℕ}
 use Rattle.refusal.specs.declared.Refusal.{Refusal}
 use Rattle.voice.specs.Voice.{Voice, voice_of}
 use Rattle.sheet.specs.Sheet.{Sheet, sheet_of}
-use Rattle.call.specs.declared.FilterSetting.TheVariants.{Named}
 use Rattle.call.specs.declared.Settings.{Settings}
 use Rattle.call.specs.Call.{plan_of, missing_refusal, read_refusal, periods_taken, filter_in}
 use Rattle.call.specs.Buffers.{Buffers, filled, need_of, fits, check_refusal, call_refusal, summary_of, fresh_of, answer_by, planned_of, buffers_after}
@@ -16,7 +15,7 @@ use Rattle.unnamed.specs.Claims.{chosen}
 
 -- settings with the filter named that they end up with
 abbrev ended : Settings → Settings
-ended o = chosen o (Named (filter_in o))
+ended o = chosen o (Some (filter_in o))
 
 ended_same : {p o : Settings} → SameSettings p o → ended p ≡ ended o
 ended_same s =
@@ -32,8 +31,8 @@ by-ended read e p o s = e p ∙ ap read (ended_same s) ∙ sym (e o)
 
 answer-ended : (v : Voice) (s : Sheet) (o : Settings) (r : Option Refusal) → answer_by v s o r ≡ answer_by v s (ended o) r
 unfolding summary_of fresh_of periods_taken plan_of
-answer-ended v s o none = refl
-answer-ended v s o (some r) = refl
+answer-ended v s o None = refl
+answer-ended v s o (Some r) = refl
 
 module _ (file sheet : List ℕ) (p o : Settings) (same : SameSettings p o) where
   pub planned-same : (b : Buffers) → planned_of file sheet p b ≡ planned_of file sheet o b

@@ -1,12 +1,10 @@
 -- Document 02, A5: a call that names no filter 'answers in everything as the one that names float'.
-use Rattle.std.specs.Prelude.{◌≡◌, List, ℕ, ◌/◌, ◌%◌, ◌≤◌, eqb, length}
+use Rattle.std.specs.Prelude.{◌≡◌, List, ℕ, ◌/◌, ◌%◌, ◌≤◌, eqb, length, None, Option, Some}
 use Rattle.base.specs.Choice.{pick}
 use Rattle.refusal.specs.Number.{answer_of}
 use Rattle.lpc.specs.declared.FilterState.{FilterState}
 use Rattle.lpc.specs.declared.ResynthType.{ResynthType}
 use Rattle.lpc.specs.declared.ResynthType.TheVariants.{Fixed, Float}
-use Rattle.call.specs.declared.FilterSetting.{FilterSetting}
-use Rattle.call.specs.declared.FilterSetting.TheVariants.{Unnamed, Named}
 use Rattle.call.specs.declared.Settings.{Settings}
 use Rattle.call.specs.declared.Planned.{Planned}
 use Rattle.call.specs.Numbers.{settings_of}
@@ -68,7 +66,7 @@ abbrev pub Alike : Settings → Settings → Type 0
 Alike p o = (file sheet : List ℕ) → CallsAlike (asked file sheet p) (asked file sheet o)
 
 -- settings with another filter
-abbrev pub chosen : Settings → FilterSetting → Settings
+abbrev pub chosen : Settings → Option ResynthType → Settings
 chosen o f = record { join = o.join; filter = f; fold = o.fold; strict = o.strict }
 
 -- how the filter of a settings word was read before A5: each number of bits 2 and 3 named one, 1 fixed and the others float
@@ -76,7 +74,7 @@ abbrev pub old_filter_of : ℕ → ResynthType
 old_filter_of n = pick (eqb n 1) Fixed Float
 
 abbrev pub old_settings_of : ℕ → Settings
-old_settings_of word = chosen (settings_of word) (Named (old_filter_of (word / 4 % 4)))
+old_settings_of word = chosen (settings_of word) (Some (old_filter_of (word / 4 % 4)))
 
 -- The claim speaks of something: every call can be made, and every pull.
 pub record CanBeMade : Type 0 where
@@ -95,7 +93,7 @@ pub record CanBeMade : Type 0 where
 
 pub record AsFloat : Type 0 where
   -- 'such a call answers in everything as the one that names float'
-  pub unnamed : (o : Settings) → Alike (chosen o Unnamed) (chosen o (Named Float))
+  pub unnamed : (o : Settings) → Alike (chosen o None) (chosen o (Some Float))
   -- in C: two words that differ in their filters alone, of which one names none and the other float
   pub words : (word word₁ : ℕ) → word % 4 ≡ word₁ % 4 → word / 16 % 2 ≡ word₁ / 16 % 2 → word / 32 % 2 ≡ word₁ / 32 % 2
       → word / 4 % 4 ≡ 0 → 2 ≤ word₁ / 4 % 4
@@ -103,6 +101,6 @@ pub record AsFloat : Type 0 where
   -- each word answers as the one that names the filter which it was read as before: A5 changed no answer of C
   pub kept : (word : ℕ) → Alike (settings_of word) (old_settings_of word)
   -- for demand 3's law on longer sheets they are the same settings, and those that name fixed are others
-  pub same : (o : Settings) → SameSettings (chosen o Unnamed) (chosen o (Named Float))
-  pub other : (o : Settings) → SameSettings (chosen o Unnamed) (chosen o (Named Fixed)) → ⊥
+  pub same : (o : Settings) → SameSettings (chosen o None) (chosen o (Some Float))
+  pub other : (o : Settings) → SameSettings (chosen o None) (chosen o (Some Fixed)) → ⊥
   pub made : CanBeMade

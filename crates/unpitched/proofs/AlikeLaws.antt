@@ -1,7 +1,7 @@
 -- A call on a sheet with its boxes filled in is the call on the sheet itself.
+use Rattle.std.specs.Prelude.{None, Option, Some}
 use mathlib.Core.Path.{◌≡◌, refl, sym, ap}
 use mathlib.Core.List.{List}
-use mathlib.Core.Option.{Option, none, some}
 use Prim.Native.Nat.{ℕ}
 use lib.Dec.{ltb}
 use lib.ListN.{length}
@@ -55,8 +55,8 @@ module _ (v : Voice) (s : Sheet) (o : Settings) where
   summary-filled = rw (periods-filled, plan-filled)
 
   answer-filled : (r : Option Refusal) → answer_by v (filled_sheet s) o r ≡ answer_by v s o r
-  answer-filled none = rw summary-filled
-  answer-filled (some r) = refl
+  answer-filled None = rw summary-filled
+  answer-filled (Some r) = refl
 
 -- ---- the call
 

@@ -1,7 +1,7 @@
 -- A6: all of it, over the contracts.
+use Rattle.std.specs.Prelude.{None, Ok}
 use mathlib.Core.Path.{◌≡◌, sym, ap, subst, ◌∙◌}
 use mathlib.Core.List.{List}
-use mathlib.Core.Option.{none}
 use Prim.Native.Nat.{ℕ}
 use native.Mathlib.Omega.{arith}
 use Rattle.base.specs.Buffers.{over}
@@ -14,7 +14,6 @@ use Rattle.sheet.proofs.SheetLaws.{sheet-refers}
 use Rattle.refusal.specs.Number.{answer_of}
 use Rattle.call.specs.declared.Settings.{Settings}
 use Rattle.call.specs.declared.Summary.{Summary}
-use Rattle.call.specs.declared.Called.TheVariants.{Spoken}
 use Rattle.call.specs.declared.Planned.{Planned}
 use Rattle.call.specs.Call.{Plan, plan_of}
 use Rattle.call.specs.Buffers.{Buffers, summary_of, filled, left_by, buffers_after}
@@ -38,7 +37,7 @@ use Rattle.unpitched.proofs.AlikeLaws.{planned-alike, buffers-alike, refusal-ali
 abbrev plan_marks : List ℕ → List ℕ → Settings → List ℕ
 plan_marks file sheet o = (plan_of (voice_of file) (sheet_of sheet) o).marks
 
-marks-left : (file sheet : List ℕ) (o : Settings) (b after : Buffers) (r : Planned) (m : Summary) → PlanMade file sheet o b r after → r.answer ≡ Spoken m
+marks-left : (file sheet : List ℕ) (o : Settings) (b after : Buffers) (r : Planned) (m : Summary) → PlanMade file sheet o b r after → r.answer ≡ Ok m
     → marks_left m after ≡ plan_marks file sheet o
 unfolding buffers_after
 marks-left file sheet o b after r m p e =
@@ -66,7 +65,7 @@ unfolding plan_of
 settings-alike v s p o e = let j = e.join in let f = e.fold in rw (j, f)
 
 longer-marks : (file sheet longer : List ℕ) (o p : Settings) → SameSettings p o → Begins (sheet_of longer) (sheet_of sheet)
-    → (plan_of (voice_of file) (sheet_of sheet) o).refusal ≡ none → Heads (plan_marks file sheet o) (plan_marks file longer p)
+    → (plan_of (voice_of file) (sheet_of sheet) o).refusal ≡ None → Heads (plan_marks file sheet o) (plan_marks file longer p)
 longer-marks file sheet longer o p e g n =
     subst (λ (x : Plan). Heads (plan_marks file sheet o) x.marks) (sym (settings-alike (voice_of file) (sheet_of longer) p o e))
     (marks-ahead (voice_of file) (sheet_of sheet) (sheet_of longer) g (sheet-refers sheet) o n)

@@ -1,6 +1,5 @@
 -- Document 02, A6: 'Differential runs hand the Rust a sheet with the empty boxes filled in.'
-use Rattle.std.specs.Prelude.{Bool, true, false, ◌&&◌, List, [], ◌∷◌, ℕ, pos, Float}
-use Rattle.std.proofs.Math.Option.{none}
+use Rattle.std.specs.Prelude.{Bool, true, false, ◌&&◌, List, [], ◌∷◌, ℕ, pos, Float, None}
 use Rattle.std.specs.Float.{fin, binary64}
 use Rattle.std.specs.Float.Ieee.{of_int}
 use Rattle.sheet.specs.declared.Value.{Value}
@@ -46,7 +45,7 @@ all_written (t ∷ ts) = is_written t.f0 && all_written ts
 -- ---- document 01's marks: 'absent counts 0'
 
 unfoldable pub old_marks_from : Float → Stage → List Target → Made
-old_marks_from rate s [] = record { refusal = none; marks = [] }
+old_marks_from rate s [] = record { refusal = None; marks = [] }
 old_marks_from rate s (t ∷ ts) =
     let position = position_counted t in
     let f0 = as_f32 t.f0 in

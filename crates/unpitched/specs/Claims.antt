@@ -1,6 +1,5 @@
 -- Document 02, A6: a target without a pitch.
-use Rattle.std.specs.Prelude.{◌≡◌, true, List, ℕ, ◌*◌, take}
-use Rattle.std.proofs.Math.Option.{none}
+use Rattle.std.specs.Prelude.{◌≡◌, true, List, ℕ, ◌*◌, take, None, Ok}
 use Rattle.base.specs.Bytes.{little_endian, elements}
 use Rattle.base.specs.Lists.{Heads}
 use Rattle.sheet.specs.declared.Target.{Target}
@@ -9,7 +8,6 @@ use Rattle.sheet.specs.Begins.{Begins}
 use Rattle.marks.specs.PitchMarks.{pitch_marks}
 use Rattle.call.specs.declared.Settings.{Settings}
 use Rattle.call.specs.declared.Summary.{Summary}
-use Rattle.call.specs.declared.Called.TheVariants.{Spoken}
 use Rattle.call.specs.declared.Planned.{Planned}
 use Rattle.call.specs.Buffers.{Buffers}
 use Rattle.c_plan.specs.Plan.{Handed}
@@ -22,8 +20,8 @@ use Rattle.unpitched.specs.Boxes.{filled_in, filled_sheet, all_written, old_pitc
 
 -- a sheet and the one with its boxes filled in, both read
 pub record BoxesFilled (sheet filled : List ℕ) : Type 0 where
-  pub reads : sheet_refusal sheet ≡ none
-  pub filled_reads : sheet_refusal filled ≡ none
+  pub reads : sheet_refusal sheet ≡ None
+  pub filled_reads : sheet_refusal filled ≡ None
   pub is : sheet_of filled ≡ filled_sheet (sheet_of sheet)
 
 -- ---- 'Under one voice and settings, where neither call is refused, a sheet that begins another still yields its beginning of the marks.'
@@ -53,8 +51,8 @@ pub record Unpitched : Type 0 where
   -- the marks of the shorter sheet head those of the longer one, in every join and whatever names its pairs find
   pub begins : (file sheet longer : List ℕ) (o p : Settings) (b b₁ after after₁ : Buffers) (r r₁ : Planned) (m m₁ : Summary)
       → SameSettings p o → Begins (sheet_of longer) (sheet_of sheet)
-      → PlanMade file sheet o b r after → r.answer ≡ Spoken m
-      → PlanMade file longer p b₁ r₁ after₁ → r₁.answer ≡ Spoken m₁
+      → PlanMade file sheet o b r after → r.answer ≡ Ok m
+      → PlanMade file longer p b₁ r₁ after₁ → r₁.answer ≡ Ok m₁
       → Heads (marks_left m after) (marks_left m₁ after₁)
   pub begins_in_c : (file sheet longer : List ℕ) (o p : Settings) (h h₁ after after₁ : Handed)
       → SameSettings p o → Begins (sheet_of longer) (sheet_of sheet)

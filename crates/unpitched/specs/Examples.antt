@@ -1,6 +1,5 @@
 -- Document 02, A6: computed examples, at 8,000 samples a second.
-use Rattle.std.specs.Prelude.{◌≡◌, true, false, List, [], ◌∷◌, ℕ, pos, negsuc}
-use Rattle.std.proofs.Math.Option.{Option, none}
+use Rattle.std.specs.Prelude.{◌≡◌, true, false, List, [], ◌∷◌, ℕ, pos, negsuc, None, Option, Some}
 use Rattle.std.specs.Float.{fin}
 use Rattle.refusal.specs.declared.Refusal.{Refusal}
 use Rattle.voice.specs.Voice.{voice_of}
@@ -11,7 +10,6 @@ use Rattle.sheet.specs.Sheet.{sheet_of}
 use Rattle.marks.specs.PitchMarks.{pitch_marks}
 use Rattle.lpc.specs.declared.ResynthType.TheVariants.{Fixed}
 use Rattle.call.specs.declared.JoinType.TheVariants.{ModifiedLpc}
-use Rattle.call.specs.declared.FilterSetting.TheVariants.{Named}
 use Rattle.call.specs.declared.Settings.{Settings}
 use Rattle.call.specs.Call.{plan_of}
 use Rattle.call.specs.Buffers.{call_refusal}
@@ -47,7 +45,7 @@ shorter_filled = 2 ∷ 0 ∷ 2 ∷ 0 ∷ 0 ∷ 2 ∷ 0 ∷ 1 ∷ 1 ∷ 0 ∷ 0 �
 
 -- the modified join
 abbrev pub modified : Settings
-modified = record { join = ModifiedLpc; filter = Named Fixed; fold = false; strict = false }
+modified = record { join = ModifiedLpc; filter = Some Fixed; fold = false; strict = false }
 
 -- calls with document 01's voice and its program's buffers
 abbrev pub refusal_of : List ℕ → Option Refusal
@@ -60,7 +58,7 @@ marks_of sheet = (plan_of (voice_of example_voice) (sheet_of sheet) modified).ma
 
 -- the marks of targets, none refused
 abbrev pub Gives : List Target → List ℕ → Type 0
-Gives ts ms = pitch_marks 8000 ts ≡ record { refusal = none; marks = ms }
+Gives ts ms = pitch_marks 8000 ts ≡ record { refusal = None; marks = ms }
 
 pub record Examples : Type 0 where
   -- '120 for the first': every 66 2/3 samples
@@ -77,5 +75,5 @@ pub record Examples : Type 0 where
   -- a sheet with its box filled in
   pub boxes : BoxesFilled shorter shorter_filled
   -- 'a sheet that begins another still yields its beginning of the marks'
-  pub spoken : (refusal_of shorter ≡ none) × (refusal_of longer ≡ none)
+  pub spoken : (refusal_of shorter ≡ None) × (refusal_of longer ≡ None)
   pub begun : (marks_of shorter ≡ 66 ∷ 133 ∷ 200 ∷ 266 ∷ []) × (marks_of longer ≡ 66 ∷ 133 ∷ 200 ∷ 266 ∷ 333 ∷ [])

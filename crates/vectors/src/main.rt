@@ -1,7 +1,7 @@
 // Compares mu-law and the G.721 decoder with vectors that other implementations made.
 #![tactic(auto)]
 
-ghost use Rattle.std.specs.Prelude.{◌≡◌, ◌+◌, ◌*◌, ◌/◌, ◌%◌, ◌<◌, ◌≤◌, eqb, length};
+ghost use Rattle.std.specs.Prelude.{◌≡◌, ℕ, ◌+◌, ◌*◌, ◌/◌, ◌%◌, ◌<◌, ◌≤◌, eqb, length};
 ghost use Rattle.base.specs.Bytes.{u16_at};
 ghost use Rattle.base.specs.Choice.{pick};
 ghost use Rattle.vectors.specs.Tallies as tally;
@@ -13,7 +13,7 @@ use std::rt::Files;
 // ---- counting
 
 // How many were compared, how many of them disagree, and how many agree before the first of those.
-#[derive(Clone, Copy)]
+#[derive(Clone, Copy, Default)]
 struct Tally {
     compared: usize,
     wrong: usize,
@@ -21,59 +21,46 @@ struct Tally {
 }
 
 impl Tally {
-    fn none() -> Tally
-        ensures { result ≡ tally.none }
-    {
-        Tally {
-            compared: 0,
-            wrong: 0,
-            first: 0,
-        }
-    }
-
     // One comparison.
     fn one(same: bool) -> Tally
         ensures { (result ≡ tally.one same) × tally.Within result 1 }
     {
-        if same {
-            Tally {
-                compared: 1,
-                wrong: 0,
-                first: 1,
-            }
-        } else {
-            Tally {
-                compared: 1,
-                wrong: 1,
-                first: 0,
-            }
+        Tally {
+            compared: 1,
+            wrong: usize::from(!same),
+            first: usize::from(same),
         }
     }
 
-    // How many agree before the first that does not, in this tally and then another.
-    fn first_with(self, t: Tally) -> usize
-        requires { tally.Within self 4294967296 × tally.Within t 4294967296 }
-        ensures { result ≡ pick (eqb self.wrong 0) (self.compared + t.first) self.first }
-    {
-        if self.wrong == 0 {
-            self.compared + t.first
-        } else {
-            self.first
-        }
-    }
-
-    // This tally, and then another.
+    // This tally, and then another: while all agree, the other's first come after this one's.
     fn joined(self, t: Tally) -> Tally
-        requires { tally.Within self 4294967296 × tally.Within t 4294967296 }
+        requires { tally.Within self 1099511627776 × tally.Within t 1099511627776 }
         ensures { result ≡ tally.joined self t }
     {
-        let first = self.first_with(t);
         Tally {
             compared: self.compared + t.compared,
             wrong: self.wrong + t.wrong,
-            first: first,
+            first: if self.wrong == 0 {
+                self.compared + t.first
+            } else {
+                self.first
+            },
         }
     }
+}
+
+// The tallies of 0, 1, .. n - 1, one after the other.
+fn all_of<F: Fn(usize) -> Tally>(n: usize, each: F) -> Tally
+    requires few { n ≤ 131072 }
+    requires callable { (i : ℕ) → i < n → F.pre each i }
+    requires bounded { (i : ℕ) (t : _) → i < n → F.post each i t → tally.Within t 262144 }
+    ensures { (of : _) → ((i : ℕ) (t : _) → i < n → F.post each i t → t ≡ of i) → result ≡ tally.all_of of n }
+{
+    let mut t = Tally::default();
+    for i in 0..n {
+        t = t.joined(each(i));
+    }
+    t
 }
 
 // ---- mu-law
@@ -83,7 +70,7 @@ fn decoding(words: &[u8], byte: u8) -> Tally
     requires { 512 ≤ length words.now }
     ensures { (result ≡ vector.decoding words.now byte) × tally.Within result 1 }
 {
-    let word = base::words::i16_to_word(ulaw::ulaw_to_i16(byte));
+    let word = ulaw::ulaw_to_i16(byte).cast_unsigned();
     Tally::one(word == base::bytes::u16_at(words, byte as usize))
 }
 
@@ -92,13 +79,7 @@ fn decodings(words: &[u8]) -> Tally
     requires { 512 ≤ length words.now }
     ensures { result ≡ tally.all_of (vector.decoding words.now) 256 }
 {
-    let mut t = Tally::none();
-    let mut byte: usize = 0;
-    while byte < 256 {
-        t = t.joined(decoding(words, byte as u8));
-        byte += 1;
-    }
-    t
+    all_of(256, |byte| decoding(words, byte as u8))
 }
 
 // The byte of the sample k words on from a word.
@@ -106,7 +87,7 @@ fn encoding(word: u16, byte: u8, k: usize) -> Tally
     requires { k < 65536 }
     ensures { (result ≡ vector.encoding word byte k) × tally.Within result 1 }
 {
-    let sample = base::words::word_to_i16(base::words::low16(word as u32 + k as u32));
+    let sample = word.wrapping_add(k as u16).cast_signed();
     Tally::one(ulaw::i16_to_ulaw(sample) == byte)
 }
 
@@ -115,13 +96,7 @@ fn run(word: u16, byte: u8, count: usize) -> Tally
     requires { count < 65536 }
     ensures { (result ≡ tally.all_of (vector.encoding word byte) count) × tally.Within result 65536 }
 {
-    let mut t = Tally::none();
-    let mut k = 0;
-    while k < count {
-        t = t.joined(encoding(word, byte, k));
-        k += 1;
-    }
-    t
+    all_of(count, |k| encoding(word, byte, k))
 }
 
 // The run at index i of a list of runs.
@@ -139,13 +114,7 @@ fn encodings(runs: &[u8]) -> Tally
     requires { length runs.now ≤ 65536 }
     ensures { result ≡ tally.all_of (vector.run runs.now) (length runs.now / 5) }
 {
-    let mut t = Tally::none();
-    let mut i = 0;
-    while i < runs.len() / 5 {
-        t = t.joined(run_at(runs, i));
-        i += 1;
-    }
-    t
+    all_of(runs.len() / 5, |i| run_at(runs, i))
 }
 
 // ---- the G.721 decoder
@@ -155,7 +124,7 @@ fn sample(g: adpcm::Signals, words: &[u8], k: usize) -> Tally
     requires { 2 * k + 2 ≤ length words.now }
     ensures { (result ≡ tally.one (eqb (4 * g.sr % 65536) (u16_at words.now k))) × tally.Within result 1 }
 {
-    let word = base::words::low16(4 * (g.sr as u32));
+    let word = g.sr.wrapping_mul(4);
     Tally::one(word == base::bytes::u16_at(words, k))
 }
 
@@ -166,15 +135,13 @@ fn samples(packed: &[u8], words: &[u8]) -> Tally
         (2 * length packed.now)) ×
         tally.Within result 131072 }
 {
-    let mut t = Tally::none();
+    let mut t = Tally::default();
     let mut state = adpcm::AdpcmState::fresh();
-    let mut k = 0;
-    while k < 2 * packed.len() {
+    for k in 0..2 * packed.len() {
         let code = adpcm::code_at(packed, k);
         let g = state.signals_of(code);
         t = t.joined(sample(g, words, k));
         state = state.next_of(code, g);
-        k += 1;
     }
     t
 }
@@ -184,13 +151,7 @@ fn bytes(got: &[u8], want: &[u8], n: usize) -> Tally
     requires { (n ≤ 131072) × ((n ≤ length got.now) × (n ≤ length want.now)) }
     ensures { (result ≡ tally.all_of (vector.byte got.now want.now) n) × tally.Within result 131072 }
 {
-    let mut t = Tally::none();
-    let mut k = 0;
-    while k < n {
-        t = t.joined(Tally::one(got[k] == want[k]));
-        k += 1;
-    }
-    t
+    all_of(n, |k| Tally::one(got[k] == want[k]))
 }
 
 // A period: its samples, then its mu-law bytes.
@@ -215,9 +176,10 @@ fn period_at(periods: &[u8], codes: &[u8], words: &[u8], want: &[u8], i: usize) 
     let from = base::bytes::u16_at(periods, 2 * i) as usize;
     let to = from + base::bytes::u16_at(periods, 2 * i + 1) as usize;
     if to <= codes.len() {
-        return period(&codes[from..to], &words[4 * from..], &want[2 * from..]);
+        period(&codes[from..to], &words[4 * from..], &want[2 * from..])
+    } else {
+        Tally::one(false)
     }
-    Tally::one(false)
 }
 
 // All periods.
@@ -229,13 +191,10 @@ fn all_periods(periods: &[u8], codes: &[u8], words: &[u8], want: &[u8]) -> Tally
         (vector.period_at periods.now codes.now words.now want.now)
         (length periods.now / 4) }
 {
-    let mut t = Tally::none();
-    let mut i = 0;
-    while i < periods.len() / 4 {
-        t = t.joined(period_at(periods, codes, words, want, i));
-        i += 1;
-    }
-    t
+    all_of(
+        periods.len() / 4,
+        |i| period_at(periods, codes, words, want, i),
+    )
 }
 
 // ---- files and lines
@@ -274,13 +233,12 @@ fn try_periods<R: Files + Print>(rt: &R) -> io::Result<()> {
     let n = files::read_file(rt, "g721.codes", &mut codes);
     let w = files::read_file(rt, "g721.samples", &mut words);
     let m = files::read_file(rt, "g721.bytes", &mut want);
-    if w == 4 * n {
-        if m == 2 * n {
-            let t = all_periods(&periods[..p], &codes[..n], &words[..w], &want[..m]);
-            return print_tally(rt, "G.721 samples and mu-law bytes decoded", t);
-        }
+    if w == 4 * n && m == 2 * n {
+        let t = all_periods(&periods[..p], &codes[..n], &words[..w], &want[..m]);
+        print_tally(rt, "G.721 samples and mu-law bytes decoded", t)
+    } else {
+        println!(rt; "the files of G.721 do not have two samples and bytes for each packed byte")
     }
-    println!(rt; "the files of G.721 do not have two samples and bytes for each packed byte")
 }
 
 fn main(rt: HostRuntime) -> io::Result<()> {

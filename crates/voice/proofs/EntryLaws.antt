@@ -1,8 +1,8 @@
 -- What a name finds in an index.
+use Rattle.std.specs.Prelude.{Some}
 use mathlib.Core.Path.{◌≡◌, refl, sym, ap, ◌∙◌}
 use mathlib.Core.Bool.{Bool, true, false, not}
 use mathlib.Core.List.{List, [], ◌∷◌}
-use mathlib.Core.Option.{some}
 use Prim.Native.Nat.{ℕ, ◌≤◌}
 use native.Mathlib.Omega.{arith}
 use borrow.Author.Tests.{leb-true, not-true}
@@ -20,28 +20,28 @@ pub record Finds (n : List ℕ) (ps : List Placed) (e : Entry) : Type 0 where
   pub stands : Stands e ps
   pub named : e.name ≡ n
 
-pub lookup-finds : (n : List ℕ) (ps : List Placed) (e : Entry) → lookup n ps ≡ some e → Finds n ps e
+pub lookup-finds : (n : List ℕ) (ps : List Placed) (e : Entry) → lookup n ps ≡ Some e → Finds n ps e
 unfolding lookup
 lookup-finds n [] e q = absurd (let z : ◌≡◌ {A = ℕ} 0 1 = cc in omega arith)
 lookup-finds n (p ∷ ps) e q = by (same p.entry.name n) refl q (lookup-finds n ps e)
   where
-    by : (t : Bool) → same p.entry.name n ≡ t → pick t (some p.entry) (lookup n ps) ≡ some e → (lookup n ps ≡ some e → Finds n ps e) → Finds n (p ∷ ps) e
+    by : (t : Bool) → same p.entry.name n ≡ t → pick t (Some p.entry) (lookup n ps) ≡ Some e → (lookup n ps ≡ Some e → Finds n ps e) → Finds n (p ∷ ps) e
     by true s q ih = let d : p.entry ≡ e = cc in record { stands = here (sym d); named = ap (λ (x : Entry). x.name) (sym d) ∙ same-eq p.entry.name n s }
     by false s q ih = let d = ih q in record { stands = there d.stands; named = d.named }
 
 -- where no name stands twice, what stands is found by its name
-pub stands-found : (ps : List Placed) → distinct ps ≡ true → (e : Entry) → Stands e ps → lookup e.name ps ≡ some e
+pub stands-found : (ps : List Placed) → distinct ps ≡ true → (e : Entry) → Stands e ps → lookup e.name ps ≡ Some e
 unfolding lookup distinct
 stands-found [] u e x = elim x [ ]
 stands-found (p ∷ ps) u e (here q) = rw (q, same_refl p.entry.name)
 stands-found (p ∷ ps) u e (there m) = by (same p.entry.name e.name) refl (stands-found ps (and_right (not (is_some (lookup p.entry.name ps))) (distinct ps) u) e m)
   where
-    by : (t : Bool) → same p.entry.name e.name ≡ t → lookup e.name ps ≡ some e → pick t (some p.entry) (lookup e.name ps) ≡ some e
+    by : (t : Bool) → same p.entry.name e.name ≡ t → lookup e.name ps ≡ Some e → pick t (Some p.entry) (lookup e.name ps) ≡ Some e
     by true s ih =
         let a = not-true (is_some (lookup p.entry.name ps)) (and_left (not (is_some (lookup p.entry.name ps))) (distinct ps) u) in
         let c = same-eq p.entry.name e.name s in
-        let d : lookup p.entry.name ps ≡ some e = ap (λ (n : List ℕ). lookup n ps) c ∙ ih in
-        let f : is_some (some e) ≡ false = rw d at a in
+        let d : lookup p.entry.name ps ≡ Some e = ap (λ (n : List ℕ). lookup n ps) c ∙ ih in
+        let f : is_some (Some e) ≡ false = rw d at a in
         cc
     by false s ih = ih
 

@@ -1,8 +1,8 @@
 -- The tables of an open voice, read where they stand in the file.
+use Rattle.std.specs.Prelude.{None, Option, Some}
 use mathlib.Core.Path.{◌≡◌, sym, ap, subst, ◌∙◌}
 use mathlib.Core.Bool.{true}
 use mathlib.Core.List.{List}
-use mathlib.Core.Option.{Option}
 use Prim.Native.Nat.{ℕ, suc, ◌+◌, ◌*◌, ◌≤◌, ◌<◌}
 use native.Mathlib.Nat.{mul-le-mul_right, mul_assoc, mul_comm, suc-mul, mul-add}
 use native.Mathlib.Omega.{arith}
@@ -16,8 +16,6 @@ use Rattle.base.proofs.ListLaws.{every-at, get_or-part, length_part, part-part}
 use Rattle.base.proofs.BufferLaws.{upto-same}
 use Rattle.base.proofs.BoundLaws.{below-part}
 use Rattle.base.proofs.ByteLaws.{little_endian-part, flat-read}
-use Rattle.container.specs.declared.Found.{Found}
-use Rattle.container.specs.declared.Found.TheVariants.{At, Missing}
 use Rattle.container.specs.Sections.{bytes_at}
 use Rattle.voice.specs.declared.VoiceHeader.{VoiceHeader}
 use Rattle.voice.specs.declared.DiphoneVoice.{DiphoneVoice}
@@ -82,23 +80,23 @@ module _ (file : List ℕ) (d : DiphoneVoice) (o : IsOpen file d) where
   offset-rises p h = rising-upto v frames risen p h
 
   -- a period's samples, where its size stands
-  pub size-within : (s : Span) → d.sizes ≡ At s → (p : ℕ) → p < frames → s.at + p < length file
+  pub size-within : (s : Span) → d.sizes ≡ Some s → (p : ℕ) → p < frames → s.at + p < length file
   size-within s e p h =
       let w = sizes-within file d o.places s e in
-      let n = leb-true frames s.len (subst (λ (f : Found). has_sizes f frames ≡ true) e sizes-enough) in
+      let n = leb-true frames s.len (subst (λ (f : Option Span). has_sizes f frames ≡ true) e sizes-enough) in
       omega arith
 
-  sized-is : (f : Found) → d.sizes ≡ f → (p : ℕ) → samples_of v p ≡ sized_by (sizes_at file f) p (gap v p)
+  sized-is : (f : Option Span) → d.sizes ≡ f → (p : ℕ) → samples_of v p ≡ sized_by (sizes_at file f) p (gap v p)
   unfolding samples_of
   sized-is f e p = ap (λ (s : Option (List ℕ)). sized_by s p (gap v p)) (sizes-is file d o.places ∙ ap (sizes_at file) e)
 
-  pub samples-sized : (s : Span) → d.sizes ≡ At s → (p : ℕ) → p < frames → get_or file (s.at + p) 0 ≡ samples_of v p
+  pub samples-sized : (s : Span) → d.sizes ≡ Some s → (p : ℕ) → p < frames → get_or file (s.at + p) 0 ≡ samples_of v p
   samples-sized s e p h =
-      let n = leb-true frames s.len (subst (λ (f : Found). has_sizes f frames ≡ true) e sizes-enough) in
-      sym (sized-is (At s) e p ∙ get_or-part file s.at s.len p 0 (omega arith))
+      let n = leb-true frames s.len (subst (λ (f : Option Span). has_sizes f frames ≡ true) e sizes-enough) in
+      sym (sized-is (Some s) e p ∙ get_or-part file s.at s.len p 0 (omega arith))
 
-  pub samples-gap : d.sizes ≡ Missing → (p : ℕ) → gap v p ≡ samples_of v p
-  samples-gap e p = sym (sized-is Missing e p)
+  pub samples-gap : d.sizes ≡ None → (p : ℕ) → gap v p ≡ samples_of v p
+  samples-gap e p = sym (sized-is None e p)
 
   -- a period's residual
   pub residual-read : (p : ℕ) → p < frames → part file (d.residual.at + offset v p) (gap v p) ≡ residual_of v p

@@ -1,8 +1,8 @@
 -- What a voice that opens shows.
+use Rattle.std.specs.Prelude.{None, Option, Some}
 use mathlib.Core.Path.{◌≡◌, refl, ◌∙◌}
 use mathlib.Core.Bool.{true, false}
 use mathlib.Core.List.{List}
-use mathlib.Core.Option.{Option, none, some}
 use Prim.Native.Nat.{ℕ, ◌≤◌}
 use borrow.Author.Tests.{leb-true}
 use Rattle.base.specs.Text.{ascii}
@@ -26,7 +26,7 @@ pub record Passed (file : List ℕ) : Type 0 where
   pub tables : good_tables (voice_of file) ≡ true
   pub index : good_index file ≡ true
 
-pub passed : (file : List ℕ) → opening_refusal file ≡ none → Passed file
+pub passed : (file : List ℕ) → opening_refusal file ≡ None → Passed file
 unfolding opening_refusal
 passed file e =
     let a = failing-none _ _ _ e in
@@ -39,18 +39,18 @@ passed file e =
     record { magic = a.0; whole = b.0; backend = c.0; needed = d.0; header = h.0; tables = t.0; index = i.0 }
 
 -- the order: a section cut short is found before the backend is looked at, and that before what is missing
-pub cut-second : (file : List ℕ) → has_magic file ≡ true → (sections file).whole ≡ false → opening_refusal file ≡ some SectionCut
+pub cut-second : (file : List ℕ) → has_magic file ≡ true → (sections file).whole ≡ false → opening_refusal file ≡ Some SectionCut
 unfolding opening_refusal
 cut-second file m w = failing-passed _ _ _ m ∙ failing-here _ _ _ w
 
-pub backend-third : (file : List ℕ) → has_magic file ≡ true → (sections file).whole ≡ true → is_diphone file ≡ false → opening_refusal file ≡ some NotDiphone
+pub backend-third : (file : List ℕ) → has_magic file ≡ true → (sections file).whole ≡ true → is_diphone file ≡ false → opening_refusal file ≡ Some NotDiphone
 unfolding opening_refusal
 backend-third file m w b = failing-passed _ _ _ m ∙ failing-passed _ _ _ w ∙ failing-here _ _ _ b
 
 -- an opening's number is that of what refuses it
 pub opening-number : (d : DiphoneVoice) (o : Option Refusal) → open_number (answer_opening d o) ≡ answer_of o
-opening-number d none = refl
-opening-number d (some r) = refl
+opening-number d None = refl
+opening-number d (Some r) = refl
 
 pub open-number : (file : List ℕ) (n : ℕ) → open_number (open_of file n) ≡ answer_of (open_refusal file n)
 unfolding open_of
@@ -65,7 +65,7 @@ pub record Opens (v : Voice) : Type 0 where
   pub names_differ : distinct v.entries ≡ true
   pub entries_end : within_frames v.header.frames v.entries ≡ true
 
-pub opens : (file : List ℕ) → opening_refusal file ≡ none → Opens (voice_of file)
+pub opens : (file : List ℕ) → opening_refusal file ≡ None → Opens (voice_of file)
 unfolding good_numbers good_scales good_header good_tables good_index voice_of voice_at places_of
 opens file e =
     let p = passed file e in

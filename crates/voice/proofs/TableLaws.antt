@@ -1,8 +1,8 @@
 -- The tables of a voice, by their places in the file.
+use Rattle.std.specs.Prelude.{None, Option, Some}
 use mathlib.Core.Path.{◌≡◌, refl, sym, ap, subst, ◌∙◌}
 use mathlib.Core.Bool.{Bool, true, false, ◌&&◌}
 use mathlib.Core.List.{List, [], ◌∷◌}
-use mathlib.Core.Option.{Option}
 use mathlib.Core.Logic.{⊎_elim}
 use Prim.Native.Nat.{ℕ, zero, suc, ◌+◌, ◌*◌, ◌≤◌, ◌<◌}
 use native.Mathlib.Nat.{eq-or-lt_of_le, le_of_suc-le-suc, mul-le-mul_left}
@@ -16,8 +16,6 @@ use Rattle.base.specs.Text.{ascii}
 use Rattle.base.specs.Bytes.{u32_at}
 use Rattle.base.specs.declared.Span.{Span}
 use Rattle.base.proofs.ListLaws.{length_part, every-at}
-use Rattle.container.specs.declared.Found.{Found}
-use Rattle.container.specs.declared.Found.TheVariants.{At, Missing}
 use Rattle.container.specs.Sections.{find, span_of, sections, bytes_at}
 use Rattle.container.proofs.SectionLaws.{section-within, found_within}
 use Rattle.voice.specs.declared.DiphoneVoice.{DiphoneVoice}
@@ -80,7 +78,7 @@ module _ (file : List ℕ) (d : DiphoneVoice) (p : d ≡ places_of file) where
   unfolding places_of
   residual-within = rw p (section-within file (ascii "sts.res"))
 
-  pub sizes-within : (s : Span) → d.sizes ≡ At s → s.at + s.len ≤ length file
+  pub sizes-within : (s : Span) → d.sizes ≡ Some s → s.at + s.len ≤ length file
   unfolding places_of sections
   sizes-within s e = found_within file (ascii "sts.ressize") (length file) 8 s (sym (ap (λ (d : DiphoneVoice). d.sizes) p) ∙ e)
 
@@ -122,9 +120,9 @@ module _ (file : List ℕ) (d : DiphoneVoice) (p : d ≡ places_of file) where
   pub sizes-enough : (n : ℕ) → long_enough (voice_of file).sizes n ≡ has_sizes d.sizes n
   sizes-enough n = ap (λ (s : Option (List ℕ)). long_enough s n) sizes-is ∙ by d.sizes refl
     where
-      by : (f : Found) → d.sizes ≡ f → long_enough (sizes_at file f) n ≡ has_sizes f n
-      by Missing e = refl
-      by (At s) e = ap (leb n) (length_part file s.at s.len (sizes-within s e))
+      by : (f : Option Span) → d.sizes ≡ f → long_enough (sizes_at file f) n ≡ has_sizes f n
+      by None e = refl
+      by (Some s) e = ap (leb n) (length_part file s.at s.len (sizes-within s e))
 
   pub tables-are : good_tables (voice_of file) ≡ every (table_tests file d)
   unfolding good_tables offset

@@ -1,6 +1,5 @@
 -- Document 01, 'Voice W extends V'.
-use Rattle.std.specs.Prelude.{◌≡◌, List, ◌∷◌, ℕ, ◌+◌, ◌*◌, ◌≤◌, take}
-use Rattle.std.proofs.Math.Option.{Option, none, some}
+use Rattle.std.specs.Prelude.{◌≡◌, List, ◌∷◌, ℕ, ◌+◌, ◌*◌, ◌≤◌, take, None, Option, Some}
 use Rattle.voice.specs.Voice.{Voice, Entry, Placed}
 use Rattle.voice.specs.Periods.{offset}
 
@@ -11,8 +10,8 @@ pub data Stands (e : Entry) : List Placed → Type 0 where
 
 -- `sts.ressize` is in neither, or in both with the same first n sizes
 pub data SameSizes (n : ℕ) : Option (List ℕ) → Option (List ℕ) → Type 0 where
-  neither : SameSizes n none none
-  both : {a b : List ℕ} → take n a ≡ take n b → SameSizes n (some a) (some b)
+  neither : SameSizes n None None
+  both : {a b : List ℕ} → take n a ≡ take n b → SameSizes n (Some a) (Some b)
 
 -- 'rate, order, coeff_min and coeff_range bits, codec and the presence of `sts.ressize` agree; W has at least V's frames; V's rows, sizes,
 -- first frames + 1 offsets and the residual up to V's last offset are W's too; each V entry stands in W'.

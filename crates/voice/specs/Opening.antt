@@ -1,6 +1,6 @@
 -- Document 01, 'Refused calls': what opening a voice file checks, 1 to 7 in order.
-use Rattle.std.specs.Prelude.{◌≡◌, Bool, true, false, ◌&&◌, not, List, [], ◌∷◌, ℕ, zero, suc, ◌+◌, ◌*◌, ◌/◌, leb, length}
-use Rattle.std.proofs.Math.Option.{Option, none, some}
+use Rattle.std.specs.Prelude.{◌≡◌, Bool, true, false, ◌&&◌, not, List, [], ◌∷◌, ℕ, zero, suc, ◌+◌, ◌*◌, ◌/◌, leb, length, Err, None, Ok, Option, Result, Some}
+use Rattle.base.specs.declared.Span.{Span}
 use Rattle.base.specs.Choice.{pick}
 use Rattle.base.specs.Text.{ascii}
 use Rattle.base.specs.Lists.{every, first_failing, or_next}
@@ -9,12 +9,8 @@ use Rattle.base.specs.Bytes.{bytes_of, u32_at}
 use Rattle.refusal.specs.declared.Refusal.{Refusal}
 use Rattle.refusal.specs.declared.Refusal.TheVariants.{BadMagic, SectionCut, NotDiphone, MissingSection, BadHeader, BadTables, BadIndex, ShortBuffer}
 use Rattle.refusal.specs.Number.{number_of}
-use Rattle.container.specs.declared.Found.{Found}
-use Rattle.container.specs.declared.Found.TheVariants.{At, Missing}
 use Rattle.container.specs.Sections.{Section, has_magic, sections, find, is_found, span_of, bytes_at, is_diphone}
 use Rattle.voice.specs.declared.DiphoneVoice.{DiphoneVoice}
-use Rattle.voice.specs.declared.Opened.{Opened}
-use Rattle.voice.specs.declared.Opened.TheVariants.{Open, Refused}
 use Rattle.voice.specs.Header.{good_header}
 use Rattle.voice.specs.Voice.{Entry, Placed, Voice, entries_from, places_of, voice_of, lookup, is_some, sorted_index}
 use Rattle.voice.specs.Periods.{offset}
@@ -36,13 +32,13 @@ rising_in offsets zero = true
 rising_in offsets (suc n) = leb (u32_at offsets n) (u32_at offsets (suc n)) && rising_in offsets n
 
 abbrev pub long_enough : Option (List ℕ) → ℕ → Bool
-long_enough none n = true
-long_enough (some bs) n = leb n (length bs)
+long_enough None n = true
+long_enough (Some bs) n = leb n (length bs)
 
 -- the same by the section's place
-abbrev pub has_sizes : Found → ℕ → Bool
-has_sizes (At s) n = leb n s.len
-has_sizes Missing n = true
+abbrev pub has_sizes : Option Span → ℕ → Bool
+has_sizes (Some s) n = leb n s.len
+has_sizes None n = true
 
 -- the greatest length of `sts.res`
 abbrev pub residual_limit : ℕ
@@ -118,7 +114,7 @@ opening_refusal file =
 -- a voice file that opens, and where its tables stand
 pub record IsOpen (file : List ℕ) (d : DiphoneVoice) : Type 0 where
   pub places : d ≡ places_of file
-  pub fit : opening_refusal file ≡ none
+  pub fit : opening_refusal file ≡ None
 
 -- 13: an index buffer of n bytes has 8 for each entry
 unfoldable pub index_fits : Voice → ℕ → Bool
@@ -126,13 +122,13 @@ index_fits v n = leb (length v.entries) (n / 8)
 
 -- An opening with an index buffer of n bytes: 1 to 7, then 13.
 unfoldable pub open_refusal : List ℕ → ℕ → Option Refusal
-open_refusal file n = or_next (opening_refusal file) (pick (index_fits (voice_of file) n) none (some ShortBuffer))
+open_refusal file n = or_next (opening_refusal file) (pick (index_fits (voice_of file) n) None (Some ShortBuffer))
 
-abbrev pub answer_opening : DiphoneVoice → Option Refusal → Opened
-answer_opening d none = Open d
-answer_opening d (some r) = Refused r
+abbrev pub answer_opening : DiphoneVoice → Option Refusal → Result DiphoneVoice Refusal
+answer_opening d None = Ok d
+answer_opening d (Some r) = Err r
 
-unfoldable pub open_of : List ℕ → ℕ → Opened
+unfoldable pub open_of : List ℕ → ℕ → Result DiphoneVoice Refusal
 open_of file n = answer_opening (places_of file) (open_refusal file n)
 
 -- the bytes of the sorted index
@@ -144,6 +140,6 @@ unfoldable pub index_after : List ℕ → List ℕ → List ℕ
 index_after file old = unless_refused (open_refusal file (length old)) (index_bytes (voice_of file)) old
 
 -- document 01's number for an answer: 0 where the voice opens
-abbrev pub open_number : Opened → ℕ
-open_number (Open d) = 0
-open_number (Refused r) = number_of r
+abbrev pub open_number : Result DiphoneVoice Refusal → ℕ
+open_number (Ok d) = 0
+open_number (Err r) = number_of r

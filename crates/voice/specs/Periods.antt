@@ -1,6 +1,5 @@
 -- A voice's pitch periods.
-use Rattle.std.specs.Prelude.{List, ℕ, zero, suc, ◌+◌, ◌-◌, ◌*◌, max, get_or}
-use Rattle.std.proofs.Math.Option.{Option, none, some}
+use Rattle.std.specs.Prelude.{List, ℕ, zero, suc, ◌+◌, ◌-◌, ◌*◌, max, get_or, None, Option, Some}
 use Rattle.base.specs.Lists.{part}
 use Rattle.base.specs.Buffers.{upto}
 use Rattle.base.specs.Bytes.{u16_at, u32_at}
@@ -22,8 +21,8 @@ residual_of v p = part v.residual (offset v p) (gap v p)
 
 -- 'A period's samples are its `sts.ressize` byte, else its offset gap'
 abbrev pub sized_by : Option (List ℕ) → ℕ → ℕ → ℕ
-sized_by none p n = n
-sized_by (some bs) p n = get_or bs p 0
+sized_by None p n = n
+sized_by (Some bs) p n = get_or bs p 0
 
 unfoldable pub samples_of : Voice → ℕ → ℕ
 samples_of v p = sized_by v.sizes p (gap v p)

@@ -1,6 +1,5 @@
 -- A voice as its tables and entries, and its sorted index.
-use Rattle.std.specs.Prelude.{Bool, true, false, ◌&&◌, List, [], ◌∷◌, map, ℕ, zero, suc, ◌+◌, ◌-◌, leb, length, get_or}
-use Rattle.std.proofs.Math.Option.{Option, none, some}
+use Rattle.std.specs.Prelude.{Bool, true, false, ◌&&◌, List, [], ◌∷◌, map, ℕ, zero, suc, ◌+◌, ◌-◌, leb, length, get_or, None, Option, Some}
 use Rattle.base.specs.Choice.{pick}
 use Rattle.base.specs.Text.{ascii}
 use Rattle.base.specs.Lists.{part}
@@ -8,8 +7,6 @@ use Rattle.base.specs.Bytes.{little_endian}
 use Rattle.base.specs.declared.Span.{Span}
 use Rattle.text.specs.Names.{same, before}
 use Rattle.text.specs.Utf8.{utf8}
-use Rattle.container.specs.declared.Found.{Found}
-use Rattle.container.specs.declared.Found.TheVariants.{At, Missing}
 use Rattle.container.specs.Sections.{find, span_of, bytes_at, sections}
 use Rattle.voice.specs.declared.VoiceHeader.{VoiceHeader}
 use Rattle.voice.specs.declared.DiphoneVoice.{DiphoneVoice}
@@ -76,9 +73,9 @@ pub record Voice : Type 0 where
   pub entries : List Placed
   pub index_at : ℕ
 
-abbrev pub sizes_at : List ℕ → Found → Option (List ℕ)
-sizes_at file (At s) = some (bytes_at file s)
-sizes_at file Missing = none
+abbrev pub sizes_at : List ℕ → Option Span → Option (List ℕ)
+sizes_at file (Some s) = Some (bytes_at file s)
+sizes_at file None = None
 
 -- the voice whose header and tables stand at these places of a file
 unfoldable pub voice_at : List ℕ → DiphoneVoice → Voice
@@ -122,12 +119,12 @@ voice_of file = voice_at file (places_of file)
 
 -- what the index has under a name
 unfoldable pub lookup : List ℕ → List Placed → Option Entry
-lookup n [] = none
-lookup n (p ∷ ps) = pick (same p.entry.name n) (some p.entry) (lookup n ps)
+lookup n [] = None
+lookup n (p ∷ ps) = pick (same p.entry.name n) (Some p.entry) (lookup n ps)
 
 abbrev pub is_some : {A : Type 0} → Option A → Bool
-is_some none = false
-is_some (some x) = true
+is_some None = false
+is_some (Some x) = true
 
 -- 'Names sort by bytes': the entries in name order
 unfoldable pub insert : Placed → List Placed → List Placed

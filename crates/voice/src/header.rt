@@ -35,10 +35,7 @@ pub fn header_of(bytes: &[u8]) -> VoiceHeader
 pub fn in_scale(x: f32) -> bool
     ensures { result ≡ headers.in_scale x }
 {
-    if -16.0 <= x {
-        return x <= 16.0;
-    }
-    false
+    -16.0 <= x && x <= 16.0
 }
 
 // Whether the whole numbers of a header are within their limits.
@@ -64,10 +61,7 @@ fn has_good_numbers(h: VoiceHeader) -> bool
 fn has_good_scales(h: VoiceHeader) -> bool
     ensures { result ≡ headers.good_scales h }
 {
-    if in_scale(h.coeff_min) {
-        return in_scale(h.coeff_range);
-    }
-    false
+    in_scale(h.coeff_min) && in_scale(h.coeff_range)
 }
 
 // Whether a section's bytes are a header: not cut short, and within the limits.
@@ -78,8 +72,5 @@ pub fn is_good(bytes: &[u8]) -> bool
         return false;
     }
     let h = header_of(bytes);
-    if has_good_numbers(h) {
-        return has_good_scales(h);
-    }
-    false
+    has_good_numbers(h) && has_good_scales(h)
 }

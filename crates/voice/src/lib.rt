@@ -7,8 +7,6 @@ pub mod sections;
 pub mod tables;
 
 use base::Span;
-use container::Found;
-use refusal::Refusal;
 
 // How a voice stores the residual of a pitch period.
 #[derive(Clone, Copy)]
@@ -39,15 +37,8 @@ pub struct DiphoneVoice {
     pub header: VoiceHeader,
     pub lpc: Span,
     pub offsets: Span,
-    pub sizes: Found,
+    pub sizes: Option<Span>,
     pub residual: Span,
     pub count: usize,
     pub entries: Span,
-}
-
-// What opening a voice file answers.
-#[derive(Clone, Copy)]
-pub enum Opened {
-    Open(DiphoneVoice),
-    Refused(Refusal),
 }

@@ -8,7 +8,6 @@ ghost use Rattle.voice.specs.Opening.{IsOpen, residual_limit};
 
 use super::DiphoneVoice;
 use base::Span;
-use container::Found;
 
 // Where period i begins in the residual.
 fn offset(file: &[u8], d: DiphoneVoice, i: usize) -> usize
@@ -31,13 +30,9 @@ pub fn period_samples(file: &[u8], d: DiphoneVoice, p: usize) -> usize
     requires { IsOpen file.now d × (p < d.header.frames) }
     ensures { (result ≡ periods.samples_of (voice_of file.now) p) × (result ≤ residual_limit) }
 {
-    let sizes = d.sizes;
-    match sizes {
-        Found::At(span) => {
-            let at = span.at + p;
-            file[at] as usize
-        }
-        Found::Missing => gap(file, d, p),
+    match d.sizes {
+        Some(span) => file[span.at + p] as usize,
+        None => gap(file, d, p),
     }
 }
 
@@ -66,16 +61,6 @@ pub fn row<'a>(file: &'a [u8], d: DiphoneVoice, p: usize) -> &'a [u8]
     super::sections::bytes_at(file, part)
 }
 
-// The larger of two numbers.
-fn larger(a: usize, b: usize) -> usize
-    ensures { result ≡ max a b }
-{
-    if a < b {
-        return b;
-    }
-    a
-}
-
 // The first period from `from` on that is longer than `most`, the longest before; the count of frames where
 // none is. A walk that ends there needs no maximum at each step.
 fn next_longer(file: &[u8], d: DiphoneVoice, from: usize, most: usize) -> usize
@@ -85,16 +70,14 @@ fn next_longer(file: &[u8], d: DiphoneVoice, from: usize, most: usize) -> usize
 {
     let frames = d.header.frames as usize;
     let mut begin = offset(file, d, from);
-    let mut p = from;
-    while p < frames {
+    for p in from..frames {
         let end = offset(file, d, p + 1);
         if most < end - begin {
             return p;
         }
         begin = end;
-        p += 1;
     }
-    p
+    frames
 }
 
 // The bytes of the longest period.
@@ -106,7 +89,7 @@ fn longest(file: &[u8], d: DiphoneVoice) -> usize
     let mut most = 0;
     let mut p = next_longer(file, d, 0, 0);
     while p < frames {
-        most = larger(gap(file, d, p), most);
+        most = gap(file, d, p).max(most);
         p = next_longer(file, d, p + 1, most);
     }
     most
@@ -118,7 +101,8 @@ pub fn decode_room(file: &[u8], d: DiphoneVoice) -> usize
     ensures { (result ≡ periods.decode_room (voice_of file.now)) × (result ≤ 33554430) }
 {
     if d.header.codec == 0 {
-        return 0;
+        0
+    } else {
+        2 * longest(file, d)
     }
-    2 * longest(file, d)
 }

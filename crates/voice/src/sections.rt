@@ -9,79 +9,26 @@ ghost use Rattle.voice.specs.Opening.{has_needed};
 
 use super::DiphoneVoice;
 use base::Span;
-use container::Found;
-
-// The section `sts.header`.
-pub fn find_header(file: &[u8]) -> Found
-    ensures { result ≡ parts.find (ascii "sts.header") (parts.sections file.now).list }
-{
-    container::find(file, b"sts.header")
-}
-
-// The section `sts.lpc`.
-pub fn find_lpc(file: &[u8]) -> Found
-    ensures { result ≡ parts.find (ascii "sts.lpc") (parts.sections file.now).list }
-{
-    container::find(file, b"sts.lpc")
-}
-
-// The section `sts.resoffs`.
-pub fn find_offsets(file: &[u8]) -> Found
-    ensures { result ≡ parts.find (ascii "sts.resoffs") (parts.sections file.now).list }
-{
-    container::find(file, b"sts.resoffs")
-}
-
-// The section `sts.ressize`.
-pub fn find_sizes(file: &[u8]) -> Found
-    ensures { result ≡ parts.find (ascii "sts.ressize") (parts.sections file.now).list }
-{
-    container::find(file, b"sts.ressize")
-}
-
-// The section `sts.res`.
-pub fn find_residual(file: &[u8]) -> Found
-    ensures { result ≡ parts.find (ascii "sts.res") (parts.sections file.now).list }
-{
-    container::find(file, b"sts.res")
-}
-
-// The section `dip.index`.
-pub fn find_index(file: &[u8]) -> Found
-    ensures { result ≡ parts.find (ascii "dip.index") (parts.sections file.now).list }
-{
-    container::find(file, b"dip.index")
-}
 
 // Whether the needed sections are there.
 pub fn has_needed(file: &[u8]) -> bool
     ensures { result ≡ has_needed (parts.sections file.now).list }
 {
-    if !container::is_found(find_header(file)) {
-        return false;
-    }
-    if !container::is_found(find_lpc(file)) {
-        return false;
-    }
-    if !container::is_found(find_offsets(file)) {
-        return false;
-    }
-    if !container::is_found(find_residual(file)) {
-        return false;
-    }
-    container::is_found(find_index(file))
+    container::find(file, b"sts.header").is_some()
+        && container::find(file, b"sts.lpc").is_some()
+        && container::find(file, b"sts.resoffs").is_some()
+        && container::find(file, b"sts.res").is_some()
+        && container::find(file, b"dip.index").is_some()
 }
 
 // The index's count, at the front of its bytes; bytes that are missing count 0.
 fn count_of(bytes: &[u8]) -> usize
     ensures { result ≡ little_endian 4 bytes.now 0 }
 {
-    if bytes.len() < 4 {
-        return base::bytes::byte_at(bytes, 0)
-            + 256 * base::bytes::byte_at(bytes, 1)
-            + 65536 * base::bytes::byte_at(bytes, 2);
-    }
-    base::bytes::read_u32(bytes, 0) as usize
+    base::bytes::byte_at(bytes, 0)
+        + 256 * base::bytes::byte_at(bytes, 1)
+        + 65536 * base::bytes::byte_at(bytes, 2)
+        + 16777216 * base::bytes::byte_at(bytes, 3)
 }
 
 // The index's bytes after its count.
@@ -89,15 +36,9 @@ fn after_count(index: Span) -> Span
     requires { index.at < 2 ^ 63 }
     ensures { result ≡ voices.after_count index }
 {
-    if index.len < 4 {
-        return Span {
-            at: index.at + 4,
-            len: 0,
-        };
-    }
     Span {
         at: index.at + 4,
-        len: index.len - 4,
+        len: index.len.saturating_sub(4),
     }
 }
 
@@ -117,7 +58,10 @@ pub fn header_bytes<'a>(file: &'a [u8]) -> &'a [u8]
         parts.bytes_at file.now
         (parts.span_of (parts.find (ascii "sts.header") (parts.sections file.now).list)) }
 {
-    bytes_at(file, container::span_of(find_header(file)))
+    bytes_at(
+        file,
+        container::span_of(container::find(file, b"sts.header")),
+    )
 }
 
 // Where the header, the tables and the index stand.
@@ -128,13 +72,13 @@ pub fn places_of(file: &[u8]) -> DiphoneVoice
         true }
     ensures { result ≡ voices.places_of file.now }
 {
-    let index = container::span_of(find_index(file));
+    let index = container::span_of(container::find(file, b"dip.index"));
     DiphoneVoice {
         header: super::header::header_of(header_bytes(file)),
-        lpc: container::span_of(find_lpc(file)),
-        offsets: container::span_of(find_offsets(file)),
-        sizes: find_sizes(file),
-        residual: container::span_of(find_residual(file)),
+        lpc: container::span_of(container::find(file, b"sts.lpc")),
+        offsets: container::span_of(container::find(file, b"sts.resoffs")),
+        sizes: container::find(file, b"sts.ressize"),
+        residual: container::span_of(container::find(file, b"sts.res")),
         count: count_of(bytes_at(file, index)),
         entries: after_count(index),
     }

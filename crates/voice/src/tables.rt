@@ -5,7 +5,7 @@ ghost use Rattle.voice.specs.Voice.{places_of, voice_of};
 ghost use Rattle.voice.specs.Opening as opening;
 
 use super::DiphoneVoice;
-use container::Found;
+use base::Span;
 
 // The greatest length of `sts.res`.
 const RESIDUAL_LIMIT: usize = 16777215;
@@ -16,25 +16,23 @@ fn is_rising(offsets: &[u8], n: usize) -> bool
     ensures { result ≡ opening.rising_in offsets.now n }
 {
     let mut last = base::bytes::u32_at(offsets, 0);
-    let mut i = 0;
-    while i < n {
+    for i in 0..n {
         let next = base::bytes::u32_at(offsets, i + 1);
         if next < last {
             return false;
         }
         last = next;
-        i += 1;
     }
     true
 }
 
 // Whether the optional sizes are missing, or at least n.
-fn has_sizes(sizes: Found, n: usize) -> bool
+fn has_sizes(sizes: Option<Span>, n: usize) -> bool
     ensures { result ≡ opening.has_sizes sizes n }
 {
     match sizes {
-        Found::At(span) => n <= span.len,
-        Found::Missing => true,
+        Some(span) => n <= span.len,
+        None => true,
     }
 }
 
@@ -50,18 +48,12 @@ pub fn is_good(file: &[u8], d: DiphoneVoice) -> bool
     if d.lpc.len < frames * (d.header.order as usize) * 2 {
         return false;
     }
-    let sizes = d.sizes;
-    if !has_sizes(sizes, frames) {
+    if !has_sizes(d.sizes, frames) {
         return false;
     }
     if d.offsets.len < (frames + 1) * 4 {
         return false;
     }
-    let from = d.offsets.at;
-    let end = from + d.offsets.len;
-    let offsets = &file[from..end];
-    if is_rising(offsets, frames) {
-        return base::bytes::u32_at(offsets, frames) as usize <= d.residual.len;
-    }
-    false
+    let offsets = super::sections::bytes_at(file, d.offsets);
+    is_rising(offsets, frames) && base::bytes::u32_at(offsets, frames) as usize <= d.residual.len
 }

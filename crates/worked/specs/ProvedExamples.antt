@@ -1,7 +1,6 @@
 -- Document 01, 'Proved examples': its table of twelve rows, its printed example and its edges, and 'Errors a porter
 -- would make', as statements over the definitions; `Examples` is all of them.
-use Rattle.std.specs.Prelude.{◌≡◌, true, false, List, [], ◌∷◌, ◌++◌, map, ℕ, zero, suc, ◌*◌, ◌≤◌, ◌<◌, ℤ, pos, negsuc, length, replicate, take, Float}
-use Rattle.std.proofs.Math.Option.{Option, none, some}
+use Rattle.std.specs.Prelude.{◌≡◌, true, false, List, [], ◌∷◌, ◌++◌, map, ℕ, zero, suc, ◌*◌, ◌≤◌, ◌<◌, ℤ, pos, negsuc, length, replicate, take, Float, None, Ok, Option, Some}
 use Rattle.std.specs.Float.{fin}
 use Rattle.base.specs.Text.{ascii}
 use Rattle.base.specs.Bytes.{bytes_of}
@@ -28,7 +27,6 @@ use Rattle.lpc.specs.Filter.{Filter, outputs, samples, periods_from}
 use Rattle.lpc.specs.Fixed.{scaled_by, row_value, divided, fixed_filter}
 use Rattle.call.specs.declared.JoinType.TheVariants.{Simple}
 use Rattle.call.specs.declared.Settings.{Settings}
-use Rattle.call.specs.declared.Called.TheVariants.{Spoken}
 use Rattle.call.specs.Call.{periods_of}
 use Rattle.call.specs.Buffers.{Buffers, filled, planned_of}
 use Rattle.transcript.specs.CallText.{call_text}
@@ -70,7 +68,7 @@ two_periods =
           };
       lpc = [];
       offsets = bytes_of 4 0 ++ (bytes_of 4 2 ++ bytes_of 4 4);
-      sizes = none;
+      sizes = None;
       residual = 1 ∷ 2 ∷ 3 ∷ 4 ∷ [];
       entries = [];
       index_at = 0;
@@ -107,7 +105,7 @@ pub record Table : Type 0 where
   pub centred_bytes : (centred 6 (1 ∷ 2 ∷ 3 ∷ []) ≡ 255 ∷ 1 ∷ 2 ∷ 3 ∷ 255 ∷ 255 ∷ [])
       × (centred 3 (1 ∷ 2 ∷ 3 ∷ 4 ∷ 5 ∷ 6 ∷ []) ≡ 2 ∷ 3 ∷ 4 ∷ [])
   -- rate 8000, targets (0, 64), (0.0625, 64): marks 125, 250, 375, 500
-  pub four_marks : pitch_marks 8000 two_targets ≡ record { refusal = none; marks = 125 ∷ 250 ∷ 375 ∷ 500 ∷ [] }
+  pub four_marks : pitch_marks 8000 two_targets ≡ record { refusal = None; marks = 125 ∷ 250 ∷ 375 ∷ 500 ∷ [] }
 
 -- ---- the printed example
 
@@ -140,7 +138,7 @@ pub record Printed : Type 0 where
   -- 'it prints exactly'
   pub text : call_text example_voice example_sheet program_settings program_buffers ≡ ascii "8000 2 5\n1 2 8 132\n2 3 0 -8 -132\n"
   pub summary : (planned_of example_voice example_sheet program_settings program_buffers).answer
-      ≡ Spoken (record { rate = 8000; periods = 2; samples = 5; marks = 2; order = 0; entries = 1 })
+      ≡ Ok (record { rate = 8000; periods = 2; samples = 5; marks = 2; order = 0; entries = 1 })
   pub periods : map (map signed16) (periods_of (voice_of example_voice) (sheet_of example_sheet) program_settings)
       ≡ (pos 8 ∷ pos 132 ∷ []) ∷ (pos 0 ∷ negsuc 7 ∷ negsuc 131 ∷ []) ∷ []
   pub buffers : filled (voice_of example_voice) (sheet_of example_sheet) program_settings
@@ -177,33 +175,33 @@ past_sixteen = 0x41800001
 
 pub record Edges : Type 0 where
   -- order 32 opens, 33 gives 5
-  pub orders : (opens_by 32 8000 0 0 ≡ none) × (opens_by 33 8000 0 0 ≡ some BadHeader)
+  pub orders : (opens_by 32 8000 0 0 ≡ None) × (opens_by 33 8000 0 0 ≡ Some BadHeader)
   -- rate 48,000 opens, 48,001 gives 5
-  pub rates : (opens_by 0 48000 0 0 ≡ none) × (opens_by 0 48001 0 0 ≡ some BadHeader)
+  pub rates : (opens_by 0 48000 0 0 ≡ None) × (opens_by 0 48001 0 0 ≡ Some BadHeader)
   -- coeff_min 16 opens, the next float gives 5; so coeff_range
-  pub leasts : (opens_by 0 8000 sixteen 0 ≡ none) × (opens_by 0 8000 past_sixteen 0 ≡ some BadHeader)
-  pub ranges : (opens_by 0 8000 0 sixteen ≡ none) × (opens_by 0 8000 0 past_sixteen ≡ some BadHeader)
+  pub leasts : (opens_by 0 8000 sixteen 0 ≡ None) × (opens_by 0 8000 past_sixteen 0 ≡ Some BadHeader)
+  pub ranges : (opens_by 0 8000 0 sixteen ≡ None) × (opens_by 0 8000 0 past_sixteen ≡ Some BadHeader)
   -- a header of 40 bytes opens, of 39 gives 5; a trailing byte is ignored
-  pub headers : (opening_refusal (voice_of_header (take 40 example_header) 0) ≡ none)
-      × (opening_refusal (voice_of_header (take 39 example_header) 0) ≡ some BadHeader)
-  pub trailing : opening_refusal (voice_of_header (example_header ++ (255 ∷ [])) 0) ≡ none
+  pub headers : (opening_refusal (voice_of_header (take 40 example_header) 0) ≡ None)
+      × (opening_refusal (voice_of_header (take 39 example_header) 0) ≡ Some BadHeader)
+  pub trailing : opening_refusal (voice_of_header (example_header ++ (255 ∷ [])) 0) ≡ None
   -- 4,096 segments read, 4,097 gives 8
-  pub segments : (sheet_refusal (128 ∷ 32 ∷ segments_of 4096) ≡ none) × (sheet_refusal (129 ∷ 32 ∷ segments_of 4097) ≡ some BadSheet)
+  pub segments : (sheet_refusal (128 ∷ 32 ∷ segments_of 4096) ≡ None) × (sheet_refusal (129 ∷ 32 ∷ segments_of 4097) ≡ Some BadSheet)
   -- a name of 32 bytes reads, of 33 gives 8
-  pub names : (reads_name (replicate 32 97) ≡ none) × (reads_name (replicate 33 97) ≡ some BadSheet)
+  pub names : (reads_name (replicate 32 97) ≡ None) × (reads_name (replicate 33 97) ≡ Some BadSheet)
   -- name bytes 33 and 126 read, 32 and 127 give 8
-  pub low_byte : (reads_name (33 ∷ []) ≡ none) × (reads_name (32 ∷ []) ≡ some BadSheet)
-  pub high_byte : (reads_name (126 ∷ []) ≡ none) × (reads_name (127 ∷ []) ≡ some BadSheet)
+  pub low_byte : (reads_name (33 ∷ []) ≡ None) × (reads_name (32 ∷ []) ≡ Some BadSheet)
+  pub high_byte : (reads_name (126 ∷ []) ≡ None) × (reads_name (127 ∷ []) ≡ Some BadSheet)
   -- no segment and no target; 80 00 is not the shortest form of 0
-  pub shortest : (sheet_refusal (0x00 ∷ 0x00 ∷ []) ≡ none) × (sheet_refusal (0x80 ∷ 0x00 ∷ 0x00 ∷ []) ≡ some BadSheet)
+  pub shortest : (sheet_refusal (0x00 ∷ 0x00 ∷ []) ≡ None) × (sheet_refusal (0x80 ∷ 0x00 ∷ 0x00 ∷ []) ≡ Some BadSheet)
   -- 65,536 marks pass, 65,537 give 12
-  pub marks : (mark_refusal most_marks (replicate 65536 7) ≡ none) × (mark_refusal most_marks (replicate 65537 7) ≡ some TooManyMarks)
+  pub marks : (mark_refusal most_marks (replicate 65536 7) ≡ None) × (mark_refusal most_marks (replicate 65537 7) ≡ Some TooManyMarks)
   -- 12 comes only after 65,536 marks were made, and no more are ever made: by targets, and in the simple join
-  pub pitch_full : (rate : ℕ) (ts : List Target) → (pitch_marks rate ts).refusal ≡ some TooManyMarks
+  pub pitch_full : (rate : ℕ) (ts : List Target) → (pitch_marks rate ts).refusal ≡ Some TooManyMarks
       → length (pitch_marks rate ts).marks ≡ 65536
   pub pitch_most : (rate : ℕ) (ts : List Target) → length (pitch_marks rate ts).marks ≤ 65536
-  pub simple_full : (ms : List ℕ) → mark_refusal most_marks ms ≡ some TooManyMarks → 65536 < length ms
-  pub simple_most : (ms : List ℕ) → mark_refusal most_marks ms ≡ none → length ms ≤ 65536
+  pub simple_full : (ms : List ℕ) → mark_refusal most_marks ms ≡ Some TooManyMarks → 65536 < length ms
+  pub simple_most : (ms : List ℕ) → mark_refusal most_marks ms ≡ None → length ms ≤ 65536
 
 -- ---- 'Errors a porter would make'
 

@@ -1,7 +1,9 @@
 -- Inner: A whole call and the pulls after it, as plain numbers: one equation by `refl` then compares all that the definitions say of a
 -- call with another reading of document 01. The long list below opens every definition that a call computes with, so that a statement,
 -- also one on a part of a call, says `unfolding tried` alone; a definition that comes to a call's is added there.
-use Rattle.std.specs.Prelude.{List, [], ◌∷◌, map, ℕ, ℤ}
+use Rattle.std.specs.Prelude.{List, [], ◌∷◌, map, ℕ, ℤ, Err, Ok, Result}
+use Rattle.refusal.specs.declared.Refusal.{Refusal}
+use Rattle.call.specs.declared.Summary.{Summary}
 use Rattle.std.specs.Float.Ieee.{of_bits, add, sub, mul, div, lt, le, ne, of_int, to_unsigned, to_signed, round}
 use Rattle.base.specs.Lists.{every, first_failing}
 use Rattle.base.specs.Buffers.{over, flat, upto}
@@ -46,15 +48,13 @@ use Rattle.lpc.specs.Floating.{float_value, float_sum, float_next, float_filter}
 use Rattle.lpc.specs.Ring.{tap, ring_after, ring_samples}
 use Rattle.lpc.specs.State.{fresh_state, advanced, spoken, periods_by}
 use Rattle.call.specs.declared.Settings.{Settings}
-use Rattle.call.specs.declared.Called.{Called}
-use Rattle.call.specs.declared.Called.TheVariants.{Spoken, Refused}
 use Rattle.call.specs.Call.{simple_plan, modified_plan, plan_by, plan_of, missing_refusal, read_refusal, periods_taken, periods_of}
 use Rattle.call.specs.Buffers.{Buffers, filled, need_of, holds, fits, check_refusal, call_refusal, summary_of}
 use Rattle.call.specs.Buffers.{fresh_of, zero_state, planned_of, buffers_after, called_number}
 use Rattle.call.specs.Pull.{Lent, possible, next_part, pull_of, pull_number}
 use Rattle.call.specs.Machine.{Shown, pulls}
 
-pub record Result : Type 0 where
+pub record CallResult : Type 0 where
   -- the refusal's number, 0 where the call is spoken
   pub answer : ℕ
   -- rate, periods, samples, marks, order, entries; nothing where the call is refused, as in the last two fields
@@ -66,16 +66,16 @@ pub record Result : Type 0 where
   -- each pull's number, and every byte of its slice afterwards
   pub pulled : List (ℤ × List ℕ)
 
-abbrev pub summary_in : Called → List ℕ
-summary_in (Spoken x) = x.rate ∷ x.periods ∷ x.samples ∷ x.marks ∷ x.order ∷ x.entries ∷ []
-summary_in (Refused r) = []
+abbrev pub summary_in : Result Summary Refusal → List ℕ
+summary_in (Ok x) = x.rate ∷ x.periods ∷ x.samples ∷ x.marks ∷ x.order ∷ x.entries ∷ []
+summary_in (Err r) = []
 
-abbrev pub if_spoken : {A : Type 0} → Called → List A → List A
-if_spoken (Spoken x) l = l
-if_spoken (Refused r) l = []
+abbrev pub if_spoken : {A : Type 0} → Result Summary Refusal → List A → List A
+if_spoken (Ok x) l = l
+if_spoken (Err r) l = []
 
 -- a voice file, a sheet, settings, the buffers as they are lent, and a sample slice for each pull
-unfoldable pub tried : List ℕ → List ℕ → Settings → Buffers → List (List ℕ) → Result
+unfoldable pub tried : List ℕ → List ℕ → Settings → Buffers → List (List ℕ) → CallResult
 unfolding of_bits add sub mul div lt le ne of_int to_unsigned to_signed round every first_failing over flat upto little_endian bytes_of low
     narrow decision_value quantised_value last_interval ulaw_of sample_of not_above powers_not_above mantissa floata sr_mag floatb an_mag wan_mag
     signed fmult

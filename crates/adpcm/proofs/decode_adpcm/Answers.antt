@@ -2,29 +2,14 @@ use native.Mathlib.Omega.{arith}
 use Rattle.adpcm.proofs.Turns.{end, start, turn}
 use Rattle.adpcm.proofs.decode_adpcm.Goals as goal
 
-pub fresh-state-requires : goal.fresh-state-requires
-fresh-state-requires c = tt
-
 pub loop-k-init : goal.loop-k-init
 loop-k-init c = start _ _ c.fresh-state.result c.fresh-state.ensures.0 c.fresh-state.ensures.1
-
-pub overflow_mul-packed : goal.overflow_mul-packed
-overflow_mul-packed c = omega arith
-
-pub code_at-requires : goal.code_at-requires
-code_at-requires c = omega arith
 
 pub coded_of-coded-requires : goal.coded_of-coded-requires
 coded_of-coded-requires c = (c.loop-k.invariant.words, c.code_at.ensures.1)
 
 pub bounds-out-k : goal.bounds-out-k
 bounds-out-k c = omega arith
-
-pub overflow_add-k : goal.overflow_add-k
-overflow_add-k c = omega arith
-
-pub loop-k-smaller : goal.loop-k-smaller
-loop-k-smaller c = omega arith
 
 pub loop-k-preserved : goal.loop-k-preserved
 loop-k-preserved c =

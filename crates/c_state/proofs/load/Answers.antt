@@ -7,10 +7,10 @@ pub returns-then-read_u32-eq0 : goal.returns-then-read_u32-eq0
 unfolding state_of head_of
 returns-then-read_u32-eq0 c =
     let e = eq-eqb _ _ (sym c.read_u32.ensures ∙ c.if-read_u32-eq0.true) in
-    rw (e, c.load_fixed-history.ensures, c.load_head-state.ensures)
+    rw (e, c.load_words.ensures, c.load_head.ensures)
 
-pub returns : goal.returns
+pub returns-else-read_u32-eq0 : goal.returns-else-read_u32-eq0
 unfolding state_of head_of
-returns c =
+returns-else-read_u32-eq0 c =
     let e = ne_eqb _ _ (λ q. c.if-read_u32-eq0.false (c.read_u32.ensures ∙ q)) in
-    rw (e, c.load_float-history.ensures, c.load_head-state-2.ensures)
+    rw (e, c.load_floats.ensures, c.load_head-else-read_u32-eq0.ensures)

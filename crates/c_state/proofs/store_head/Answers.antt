@@ -1,3 +1,4 @@
+use Rattle.std.proofs.Common.{rules}
 use Rattle.c_state.proofs.StateLaws.{stored-head}
 use Rattle.c_state.proofs.store_head.Goals as goal
 
@@ -5,7 +6,7 @@ pub returns : goal.returns
 returns c =
     let a = c.args in
     stored-head a.state a.buf.now _ _ _ _ _ _ _ _ _ _ _ _ c.requires
-    c.filter_number.ensures
+    (search rules)
     c.low32.ensures
     c.low32-2.ensures
     c.f32_to_word.ensures

@@ -1,9 +1,11 @@
 use borrow.Author.Tests.{ltb-true, ltb-false}
 use mathlib.Core.Path.{◌≡◌, sym, subst, ◌∙◌}
 use native.Mathlib.Omega.{arith}
+use Rattle.base.proofs.ResultLaws.{failed}
 use Rattle.units.specs.Walking.{many_left}
 use Rattle.units.proofs.StepLaws.{left-none}
 use Rattle.marks.specs.Checking.{LowPlace}
+use Rattle.checking.specs.Joining.{Joins}
 use Rattle.checking.proofs.NaturalLaws.{going-first, going-refused, going_on, going_done}
 use Rattle.checking.proofs.check_natural.Goals as goal
 
@@ -24,11 +26,12 @@ pub check_unit_marks-requires : goal.check_unit_marks-requires
 check_unit_marks-requires c =
     (c.requires.0.opened, c.next_unit-step.ensures.inside.within, c.loop-by.invariant.1.low)
 
-pub returns-in-Refused : goal.returns-in-Refused
-returns-in-Refused c =
+pub returns-in_err-end : goal.returns-in_err-end
+returns-in_err-end c =
     let l = c.loop-by in
     let s = c.next_unit-step in
-    going-refused _ _ _ _ _ _ _ s.ensures.units l.invariant.1 _ (sym c.check_unit_marks.ensures.0 ∙ c.in-Refused.is)
+    subst (Joins _) (sym (failed _ c.from_residual.ensures))
+    (going-refused _ _ _ _ _ _ _ s.ensures.units l.invariant.1 _ (sym c.check_unit_marks.ensures.0 ∙ c.in_err-end.was))
 
 pub loop-by-smaller : goal.loop-by-smaller
 loop-by-smaller c = let e = c.next_unit-step.ensures.fewer in omega (arith, e)
@@ -38,7 +41,7 @@ loop-by-preserved c =
     let l = c.loop-by in
     let s = c.next_unit-step in
     let m = c.check_unit_marks in
-    let e = c.in-To.is in
+    let e = c.in_ok-end.was in
     (s.ensures.walking, going_on _ _ _ _ _ _ _ s.ensures.units l.invariant.1 _ _ (sym m.ensures.0 ∙ e) (subst LowPlace e m.ensures.1))
 
 pub overflow_sub-count : goal.overflow_sub-count

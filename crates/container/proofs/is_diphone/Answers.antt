@@ -1,7 +1,7 @@
+use Rattle.std.specs.Prelude.{None, Some}
 use Prim.Native.Nat.{ℕ, ◌+◌, ◌-◌}
 use lib.ListN.{take, drop}
 use Rattle.container.specs.Sections.{find, names_diphone}
-use Rattle.container.specs.declared.Found.TheVariants.{At, Missing}
 use mathlib.Core.Path.{◌≡◌, sym, ap, ◌∙◌}
 use native.Mathlib.Omega.{arith}
 use lib.ListN.{length}
@@ -15,28 +15,28 @@ pub overflow_add-end : goal.overflow_add-end
 unfolding sections
 overflow_add-end c =
     let f = c.args.file.now in
-    let h = found_within f (ascii "voice.backend") (length f) 8 c.in-At.data (sym c.find.ensures ∙ c.in-At.is) in
+    let h = found_within f (ascii "voice.backend") (length f) 8 c.in-Some.data (sym c.find.ensures ∙ c.in-Some.is) in
     omega (arith, h)
 
 pub slice_bounds-names_diphone-end : goal.slice_bounds-names_diphone-end
 unfolding sections
 slice_bounds-names_diphone-end c =
     let f = c.args.file.now in
-    let h = found_within f (ascii "voice.backend") (length f) 8 c.in-At.data (sym c.find.ensures ∙ c.in-At.is) in
+    let h = found_within f (ascii "voice.backend") (length f) 8 c.in-Some.data (sym c.find.ensures ∙ c.in-Some.is) in
     search rules
 
-pub returns-in-At : goal.returns-in-At
+pub returns-in-Some : goal.returns-in-Some
 unfolding is_diphone says_diphone
-returns-in-At c =
+returns-in-Some c =
     let f = c.args.file.now in
-    let e : find (ascii "voice.backend") (sections f).list ≡ At c.in-At.data = sym c.find.ensures ∙ c.in-At.is in
+    let e : find (ascii "voice.backend") (sections f).list ≡ Some c.in-Some.data = sym c.find.ensures ∙ c.in-Some.is in
     let g = c.names_diphone.ensures in
-    let m : c.in-At.data.at + c.in-At.data.len - c.in-At.data.at ≡ c.in-At.data.len = omega arith in
-    rw e (g ∙ ap (λ (n : ℕ). names_diphone (take n (drop c.in-At.data.at f))) m)
+    let m : c.in-Some.data.at + c.in-Some.data.len - c.in-Some.data.at ≡ c.in-Some.data.len = omega arith in
+    rw e (g ∙ ap (λ (n : ℕ). names_diphone (take n (drop c.in-Some.data.at f))) m)
 
-pub returns-in-Missing : goal.returns-in-Missing
+pub returns-in-None : goal.returns-in-None
 unfolding is_diphone says_diphone
-returns-in-Missing c =
+returns-in-None c =
     let f = c.args.file.now in
-    let e : find (ascii "voice.backend") (sections f).list ≡ Missing = sym c.find.ensures ∙ c.in-Missing.is in
+    let e : find (ascii "voice.backend") (sections f).list ≡ None = sym c.find.ensures ∙ c.in-None.is in
     rw e

@@ -11,6 +11,3 @@ unfolding trim
 returns-then-utf8 c =
     let u = sym c.utf8-2.ensures ∙ c.if-utf8.true in
     rw u (c.is_diphone_from.ensures ∙ ap (λ (l : List ℕ). same (trim_end l) (ascii "diphone")) c.skip.ensures.0)
-
-pub returns : goal.returns
-returns c = let u = sym c.utf8-2.ensures ∙ c.if-utf8.false in rw u

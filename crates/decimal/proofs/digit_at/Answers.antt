@@ -1,14 +1,21 @@
-use Rattle.decimal.proofs.DigitLaws.{past_end, low_byte, high_byte, digit-byte}
+use Rattle.std.proofs.Common.{sym, arith}
+use Rattle.decimal.proofs.DigitLaws.{past_end, other-byte, digit-byte}
 use Rattle.decimal.proofs.digit_at.Goals as goal
 
-pub returns-then-byte-lt48 : goal.returns-then-byte-lt48
-returns-then-byte-lt48 c = low_byte c.args.text.now c.args.at c.if-at-text.true c.if-byte-lt48.true
+pub returns-in_err-byte : goal.returns-in_err-byte
+returns-in_err-byte c =
+    let past = c.in_err-byte.ensures.lookup.3 in
+    rw c.from_residual.ensures (past_end c.args.text.now c.args.at past)
 
-pub returns-then-byte-le57 : goal.returns-then-byte-le57
-returns-then-byte-le57 c = digit-byte c.args.text.now c.args.at c.if-at-text.true c.if-byte-lt48.false c.if-byte-le57.true
+pub returns-then-is_ascii_digit : goal.returns-then-is_ascii_digit
+returns-then-is_ascii_digit c =
+    let there = c.in_ok-byte.ensures.lookup.3 in
+    let range = c.if-is_ascii_digit.ensures.cases in
+    let test = rw (there.1 0) at (sym c.if-is_ascii_digit.ensures.value) in
+    (there.0, omega (arith, range), rw (c.from.ensures, there.1 0) (digit-byte c.args.text.now c.args.at there.0 test))
 
-pub returns-else-byte-le57 : goal.returns-else-byte-le57
-returns-else-byte-le57 c = high_byte c.args.text.now c.args.at c.if-at-text.true c.if-byte-lt48.false c.if-byte-le57.false
-
-pub returns-else-at-text : goal.returns-else-at-text
-returns-else-at-text c = past_end c.args.text.now c.args.at c.if-at-text.false
+pub returns-else-is_ascii_digit : goal.returns-else-is_ascii_digit
+returns-else-is_ascii_digit c =
+    let there = c.in_ok-byte.ensures.lookup.3 in
+    let test = rw (there.1 0) at (sym c.if-is_ascii_digit.ensures.value) in
+    other-byte c.args.text.now c.args.at there.0 test

@@ -1,5 +1,5 @@
 use mathlib.Core.Path.{◌≡◌, sym, ◌∙◌}
-use mathlib.Core.Bool.{true}
+use mathlib.Core.Bool.{true, false}
 use Prim.Native.Nat.{◌+◌, ◌<◌}
 use native.Mathlib.Nat.{lt_of_lt_of_le}
 use native.Mathlib.Omega.{arith}
@@ -8,7 +8,7 @@ use Rattle.decimal.specs.Decimal.{begins}
 use Rattle.decimal.proofs.DigitLaws.{ten-mono}
 use Rattle.decimal.proofs.TextLaws.{has-inside, number_small, power_small, power-some, value-whole, value-part}
 use Rattle.decimal.proofs.short_to_f32.Goals as goal
-use Rattle.decimal.proofs.short_to_f32.Goals.{After-nearest_f32, Then-has}
+use Rattle.decimal.proofs.short_to_f32.Goals.{Then-has, then-minus, else-minus, then-minus-2, else-minus-2}
 
 pub read_digits-whole-requires : goal.read_digits-whole-requires
 read_digits-whole-requires c = (c.sign_length-start.ensures.1, c.requires, ten-mono {i = 0} (omega arith))
@@ -16,10 +16,6 @@ read_digits-whole-requires c = (c.sign_length-start.ensures.1, c.requires, ten-m
 -- a point follows
 point : (c : Then-has) → begins 46 (drop c.read_digits-whole.result.end c.args.text.now) ≡ true
 point c = sym c.has.ensures ∙ c.if-has.true
-
--- a point follows
-point_2 : (c : After-nearest_f32) → begins 46 (drop c.read_digits-whole.result.end c.args.text.now) ≡ true
-point_2 c = sym c.has.ensures ∙ c.if-has.true
 
 pub read_digits-all-requires : goal.read_digits-all-requires
 read_digits-all-requires c =
@@ -36,9 +32,16 @@ nearest_f32-requires c =
 
 pub returns-then-has : goal.returns-then-has
 returns-then-has c =
-    c.nearest_f32.ensures
-    ∙ rw (c.both.ensures, c.has-minus.ensures)
-    (sym (value-part c.args.text.now c.sign_length-start.result c.read_digits-whole.result c.sign_length-start.ensures.0 c.read_digits-whole.ensures c.read_digits-all.result (point_2 c) c.read_digits-all.ensures))
+    let value = value-part c.args.text.now c.sign_length-start.result c.read_digits-whole.result c.sign_length-start.ensures.0 c.read_digits-whole.ensures c.read_digits-all.result (sym c.has.ensures ∙ c.if-has.true) c.read_digits-all.ensures in
+    elim c.if-minus.branch [
+      | then-minus w ↦
+          let minus : begins 45 c.args.text.now ≡ true = cc in
+          c.nearest_f32.ensures ∙ rw w.nearest_f32-is (sym (rw minus at value))
+      | else-minus w ↦
+          let minus : begins 45 c.args.text.now ≡ false = cc in
+          let is : c.if-minus.nearest_f32 ≡ false = cc in
+          c.nearest_f32.ensures ∙ rw is (sym (rw minus at value))
+    ]
 
 pub nearest_f32-requires-2 : goal.nearest_f32-requires-2
 nearest_f32-requires-2 c =
@@ -46,6 +49,13 @@ nearest_f32-requires-2 c =
 
 pub returns : goal.returns
 returns c =
-    c.nearest_f32-2.ensures
-    ∙ rw (c.both-2.ensures, c.has-minus.ensures)
-    (sym (value-whole c.args.text.now c.sign_length-start.result c.read_digits-whole.result c.sign_length-start.ensures.0 c.read_digits-whole.ensures (sym c.has.ensures ∙ c.if-has.false)))
+    let value = value-whole c.args.text.now c.sign_length-start.result c.read_digits-whole.result c.sign_length-start.ensures.0 c.read_digits-whole.ensures (sym c.has.ensures ∙ c.if-has.false) in
+    elim c.if-minus-2.branch [
+      | then-minus-2 w ↦
+          let minus : begins 45 c.args.text.now ≡ true = cc in
+          c.nearest_f32-2.ensures ∙ rw w.nearest_f32-is (sym (rw minus at value))
+      | else-minus-2 w ↦
+          let minus : begins 45 c.args.text.now ≡ false = cc in
+          let is : c.if-minus-2.nearest_f32 ≡ false = cc in
+          c.nearest_f32-2.ensures ∙ rw is (sym (rw minus at value))
+    ]

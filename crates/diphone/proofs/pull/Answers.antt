@@ -1,3 +1,5 @@
+use Rattle.std.specs.Prelude.{Ok, Option, Result, Some}
+use Rattle.refusal.specs.declared.Refusal.{Refusal}
 use mathlib.Core.Path.{◌≡◌, sym, ap, ◌∙◌}
 use mathlib.Core.Bool.{true}
 use mathlib.Core.List.{List}
@@ -10,8 +12,6 @@ use Rattle.base.proofs.ByteLaws.{length-elements}
 use Rattle.lpc.specs.declared.FilterState.{FilterState}
 use Rattle.lpc.specs.Filter.{Part}
 use Rattle.lpc.specs.State.{advanced, spoken}
-use Rattle.call.specs.declared.Answer.{Answer}
-use Rattle.call.specs.declared.Answer.TheVariants.{Given}
 use Rattle.call.specs.Pull.{lent_of, possible, next_part, Outcome, leaves}
 use Rattle.call.proofs.PullLaws.{pull-impossible, pull-done, pull-short, pull-gives}
 use Rattle.pulling.proofs.PullingLaws.{period-low, sample-low, can-take, next-is}
@@ -19,10 +19,10 @@ use Rattle.diphone.proofs.pull.Goals as goal
 use Rattle.diphone.proofs.pull.Goals.{After-resynthesise_next-arg-1, After-slice_known-2-1, Else-state-sizes, Then-samples-n, Then-state-sizes}
 
 -- both clauses at once
-both : {o : Outcome} {a : Answer} {s : FilterState} {d : List ℕ} → o ≡ leaves a s d → (record { answer = a; state = s } ≡ o.pulled) × (d ≡ o.slice)
+both : {o : Outcome} {a : Result (Option ℕ) Refusal} {s : FilterState} {d : List ℕ} → o ≡ leaves a s d → (record { answer = a; state = s } ≡ o.pulled) × (d ≡ o.slice)
 both e = (sym (ap (λ (o : Outcome). o.pulled) e), sym (ap (λ (o : Outcome). o.slice) e))
 
-given-ends : (o : Outcome) (m n : ℕ) (s s' : FilterState) (d d' : List ℕ) → o ≡ leaves (Given m) s d → n ≡ m → s' ≡ s → d' ≡ d → o ≡ leaves (Given n) s' d'
+given-ends : (o : Outcome) (m n : ℕ) (s s' : FilterState) (d d' : List ℕ) → o ≡ leaves (Ok (Some m)) s d → n ≡ m → s' ≡ s → d' ≡ d → o ≡ leaves (Ok (Some n)) s' d'
 given-ends o m n s s' d d' e p q r = rw (p, q, r) e
 
 sizes-count : (c : Then-state-sizes) → length (lent_of c.args.sizes.now c.args.rows.now c.args.excitation.now).sizes ≡ length c.args.sizes.now / 4

@@ -36,18 +36,13 @@ loop-p-preserved c =
     let q = sym (c.is_nearer.ensures ∙ ap (λ (x : Float). nearer c.args.place c.loop-p.start (add binary32 c.loop-p.start x)) e) ∙ c.if-is_nearer.false in
     (omega arith, ap (λ (x : Float). nearest_from v c.args.place (add binary32 l.start x) (l.p + 1) (last - (l.p + 1))) e ∙ nearest-next v c.args.place l.start l.p last c.loop-p-test.true q ∙ l.invariant.1)
 
-pub returns-then-p-eq0 : goal.returns-then-p-eq0
-unfolding nearest_period of_bits
-returns-then-p-eq0 c =
-    let l = c.loop-p in
-    let v = voice_of c.args.file.now in
-    let some = frames-some c.args.file.now c.args.d c.requires.0 in
-    let z : 0 ≡ l.p - 1 = omega (arith, c.if-p-eq0.true) in
-    (z ∙ sym (nearest-last v c.args.place l.start l.p c.args.unit.last_period c.loop-p-test.false) ∙ l.invariant.1, some)
-
 pub returns : goal.returns
 unfolding nearest_period of_bits
 returns c =
     let l = c.loop-p in
-    let v = voice_of c.args.file.now in
-    (sym (nearest-last v c.args.place l.start l.p c.args.unit.last_period c.loop-p-test.false) ∙ l.invariant.1, omega (arith, c.requires.1.1, c.if-p-eq0.false))
+    let a = c.args in
+    let v = voice_of a.file.now in
+    let some = frames-some a.file.now a.d c.requires.0 in
+    let same : c.saturating_sub.result ≡ l.p - 1 = omega (arith, c.saturating_sub.ensures, c.loop-p-test.false, l.invariant.0) in
+    let found = sym (nearest-last v a.place l.start l.p a.unit.last_period c.loop-p-test.false) ∙ l.invariant.1 in
+    (same ∙ found, omega (arith, c.saturating_sub.ensures, c.requires.1.1, some))

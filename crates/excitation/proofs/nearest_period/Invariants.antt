@@ -5,7 +5,4 @@ use Rattle.excitation.specs.Nearest.{nearest_from}
 use Rattle.excitation.proofs.nearest_period.Given as goal
 
 abbrev pub invariant-loop-p : goal.invariant-loop-p
-invariant-loop-p l = (l.p ≤ l.last) × (nearest_from (voice_of l.file) l.place l.start l.p (l.last - l.p) ≡ nearest_from (voice_of l.file) l.place l.initial.start l.initial.p (l.last - l.initial.p))
-
-abbrev pub decreases-loop-p : goal.decreases-loop-p
-decreases-loop-p l = l.last - l.p
+invariant-loop-p l = (l.p ≤ l.unit.last_period) × (nearest_from (voice_of l.file) l.place l.start l.p (l.unit.last_period - l.p) ≡ nearest_from (voice_of l.file) l.place l.initial.start l.initial.p (l.unit.last_period - l.initial.p))

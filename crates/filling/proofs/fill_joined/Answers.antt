@@ -1,25 +1,25 @@
-use mathlib.Core.Path.{◌∙◌}
-use lib.ListN.{length}
-use Rattle.filling.specs.Filling.{lent_periods}
-use Rattle.filling.proofs.JoinLaws.{can-marks, all-marks, can-periods}
+use mathlib.Core.Path.{◌≡◌, ◌∙◌}
+use lib.ListN.{take}
+use Rattle.std.proofs.Common.{rules}
+use Rattle.base.specs.Buffers.{over, flat}
+use Rattle.base.specs.Bytes.{bytes_of}
+use Rattle.filling.specs.Filling.{planned, lent_periods}
+use Rattle.filling.proofs.JoinLaws.{all-marks, can-periods}
 use Rattle.filling.proofs.fill_joined.Goals as goal
-
-pub store_marks-requires : goal.store_marks-requires
-store_marks-requires c =
-    can-marks c.args.join c.args.file.now c.args.index.now c.args.sheet.now c.args.by c.args.count (length c.args.marks.now)
-    (lent_periods c.args.sizes.now c.args.rows.now c.args.excitation.now c.args.decoded.now) c.requires
 
 pub take_periods-requires : goal.take_periods-requires
 take_periods-requires c =
-    let b = lent_periods c.args.sizes.now c.args.rows.now c.args.excitation.now c.args.decoded.now in
-    can-periods c.args.join c.args.file.now c.args.index.now c.args.sheet.now c.args.by c.args.count c.args.marks.now _ b c.requires
-    (c.store_marks.ensures
-    ∙ all-marks c.args.join c.args.file.now c.args.index.now c.args.sheet.now c.args.by c.args.count _ b c.requires c.args.marks.now)
+    let a = c.args in
+    let b = lent_periods a.sizes.now a.rows.now a.excitation.now a.decoded.now in
+    let stored : c.store_marks.new.marks ≡ over (flat (bytes_of 4) (take a.count (planned a.join a.file.now a.sheet.now a.by).marks)) a.marks.now = search rules in
+    can-periods a.join a.file.now a.index.now a.sheet.now a.by a.count a.marks.now _ b c.requires
+    (stored ∙ all-marks a.join a.file.now a.index.now a.sheet.now a.by a.count _ b c.requires a.marks.now)
 
 pub returns : goal.returns
 returns c =
-    let b = lent_periods c.args.sizes.now c.args.rows.now c.args.excitation.now c.args.decoded.now in (
-      c.store_marks.ensures
-          ∙ all-marks c.args.join c.args.file.now c.args.index.now c.args.sheet.now c.args.by c.args.count _ b c.requires c.args.marks.now,
+    let a = c.args in
+    let b = lent_periods a.sizes.now a.rows.now a.excitation.now a.decoded.now in
+    let stored : c.store_marks.new.marks ≡ over (flat (bytes_of 4) (take a.count (planned a.join a.file.now a.sheet.now a.by).marks)) a.marks.now = search rules in (
+      stored ∙ all-marks a.join a.file.now a.index.now a.sheet.now a.by a.count _ b c.requires a.marks.now,
       c.take_periods.ensures,
     )

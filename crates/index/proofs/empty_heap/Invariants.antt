@@ -4,6 +4,3 @@ use Rattle.index.proofs.empty_heap.Given as goal
 
 abbrev pub invariant-loop-end : goal.invariant-loop-end
 invariant-loop-end l = (l.end ≤ l.count) × Shuffled l.entries l.count l.base l.initial.index l.index
-
-abbrev pub decreases-loop-end : goal.decreases-loop-end
-decreases-loop-end l = l.end

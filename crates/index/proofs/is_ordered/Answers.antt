@@ -12,12 +12,12 @@ places_ascend-requires c = (c.requires, (omega arith, omega arith))
 pub loop-i-preserved : goal.loop-i-preserved
 loop-i-preserved c =
     let l = c.loop-i in
-    (omega arith, λ s. ordered-more _ _ _ _ s _ l.invariant.0 (omega arith) (sym c.places_ascend.ensures ∙ c.if-places_ascend.true) ∙ l.invariant.1 s)
+    (omega arith, λ s. ordered-more _ _ _ _ s _ l.invariant.0 (omega arith) (sym c.places_ascend.ensures ∙ c.if-not-places_ascend.false) ∙ l.invariant.1 s)
 
-pub returns-else-places_ascend : goal.returns-else-places_ascend
-returns-else-places_ascend c s =
+pub returns-then-not-places_ascend : goal.returns-then-not-places_ascend
+returns-then-not-places_ascend c s =
     let l = c.loop-i in
-    sym (ordered-stop _ _ _ _ s _ l.invariant.0 (omega arith) (sym c.places_ascend.ensures ∙ c.if-places_ascend.false)) ∙ l.invariant.1 s
+    sym (ordered-stop _ _ _ _ s _ l.invariant.0 (omega arith) (sym c.places_ascend.ensures ∙ c.if-not-places_ascend.true)) ∙ l.invariant.1 s
 
 pub returns : goal.returns
 returns c s =

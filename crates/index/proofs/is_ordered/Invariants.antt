@@ -7,6 +7,3 @@ use Rattle.index.proofs.is_ordered.Given as goal
 
 abbrev pub invariant-loop-i : goal.invariant-loop-i
 invariant-loop-i l = (1 ≤ l.i) × ((s : Shuffled l.entries l.count l.base l.index l.index) → ascending (drop (l.i - 1) s.places) ≡ ascending s.places)
-
-abbrev pub decreases-loop-i : goal.decreases-loop-i
-decreases-loop-i l = l.count - l.i

@@ -18,11 +18,11 @@ pub loop-at-preserved : goal.loop-at-preserved
 loop-at-preserved c =
     shuffled-then _ _ _ _ _ c.loop-at.invariant _ c.exchange_places.ensures
 
-pub shape_of-index-else-places_ascend : goal.shape_of-index-else-places_ascend
-shape_of-index-else-places_ascend c = shuffled-long _ _ _ _ _ c.loop-at.invariant
+pub shape_of-index-then-not-places_ascend : goal.shape_of-index-then-not-places_ascend
+shape_of-index-then-not-places_ascend c = shuffled-long _ _ _ _ _ c.loop-at.invariant
 
-pub returns-else-places_ascend : goal.returns-else-places_ascend
-returns-else-places_ascend c = c.loop-at.invariant
+pub returns-then-not-places_ascend : goal.returns-then-not-places_ascend
+returns-then-not-places_ascend c = c.loop-at.invariant
 
 pub shape_of-index : goal.shape_of-index
 shape_of-index c = shuffled-long _ _ _ _ _ c.loop-at.invariant

@@ -1,7 +1,6 @@
 use Rattle.lines.proofs.PutLaws.{put-more}
-use Rattle.std.proofs.Common.{rules}
 use Rattle.lines.proofs.put_field.Goals as goal
 
-pub returns : goal.returns
-returns c =
-    record { puts = put-more c.put_byte-next.ensures.puts c.put_number.ensures.puts; upper_bound = search rules }
+pub returns-clause-puts : goal.returns-clause-puts
+returns-clause-puts c =
+    put-more c.put_byte-next.ensures.puts c.put_number.ensures.puts

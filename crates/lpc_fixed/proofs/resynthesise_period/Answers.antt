@@ -15,8 +15,8 @@ values : (c : After-place_after-place) → c.row_values-values.result ≡ over (
 values c =
     c.row_values-values.ensures
     ∙ values_same _ _ _ _ c.args.row.now (replicate 32 0) _
-    (to_z-of_z {w = w32} (record { sfits = c.min_q.type_inv }) ∙ c.min_q.ensures)
-    (to_z-of_z {w = w32} (record { sfits = c.range_q.type_inv }) ∙ c.range_q.ensures)
+    (to_z-of_z {w = w32} (record { sfits = c.scaled-min_q.type_inv }) ∙ c.scaled-min_q.ensures)
+    (to_z-of_z {w = w32} (record { sfits = c.scaled-range_q.type_inv }) ∙ c.scaled-range_q.ensures)
 
 pub loop-i-preserved : goal.loop-i-preserved
 loop-i-preserved c =

@@ -9,4 +9,4 @@ pub loop-k-preserved : goal.loop-k-preserved
 loop-k-preserved c =
     let l = c.loop-k in
     let k : l.k < 32 = omega arith in
-    (omega arith, rw (l.invariant.1, c.row_value.ensures, c.u16_at-q.ensures) (stored_more _ l.k (replicate 32 0) k))
+    (omega arith, rw (l.invariant.1, c.row_value.ensures, c.u16_at.ensures) (stored_more _ l.k (replicate 32 0) k))

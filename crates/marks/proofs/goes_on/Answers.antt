@@ -6,6 +6,6 @@ pub returns-then-w : goal.returns-then-w
 unfolding goes_on of_bits
 returns-then-w c = simp (c.if-w.true, c.f0_at.ensures)
 
-pub returns : goal.returns
+pub returns-else-w : goal.returns-else-w
 unfolding goes_on
-returns c = simp c.if-w.false
+returns-else-w c = simp c.if-w.false

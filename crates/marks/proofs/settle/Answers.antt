@@ -1,9 +1,10 @@
+use Rattle.std.specs.Prelude.{Ok}
 use Rattle.std.proofs.Common.{◌≡◌, false, sym, refl, ◌∙◌, subst, arith}
-use Rattle.marks.specs.Walking.{on_way, Advanced}
-use Rattle.marks.specs.declared.Aimed.TheVariants.{To}
+use Rattle.base.proofs.ResultLaws.{failed}
+use Rattle.marks.specs.Walking.{on_way, Advanced, IsSettled}
 use Rattle.marks.proofs.WalkLaws.{coming-none}
 use Rattle.marks.proofs.settle.Goals as goal
-use Rattle.marks.proofs.settle.Goals.{Else-walk-eq0, In-To, Then-walk-eq0}
+use Rattle.marks.proofs.settle.Goals.{Else-walk-eq0, In_ok-walk, Then-walk-eq0}
 
 -- the walk is not on the way to a target
 idle : (c : Then-walk-eq0) → on_way c.loop-walk.walk ≡ false
@@ -14,8 +15,8 @@ idle_2 : (c : Else-walk-eq0) → on_way c.loop-walk.walk ≡ false
 idle_2 c = sym c.is_on_way.ensures ∙ c.loop-walk-test.true
 
 -- the walk has gone on to the next target
-gone : (c : In-To) → Advanced c.args.sheet.now c.loop-walk.walk (To c.in-To.next)
-gone c = subst (Advanced _ _) c.in-To.is c.advance.ensures
+gone : (c : In_ok-walk) → Advanced c.args.sheet.now c.loop-walk.walk (Ok c.in_ok-walk.walk)
+gone c = subst (Advanced _ _) c.in_ok-walk.was c.advance.ensures
 
 pub loop-walk-init : goal.loop-walk-init
 loop-walk-init c = (refl, c.requires, refl)
@@ -26,8 +27,10 @@ returns-then-walk-eq0 c = let l = c.loop-walk in sym l.invariant.0 ∙ coming-no
 pub advance-requires : goal.advance-requires
 advance-requires c = (c.loop-walk.invariant.1, omega arith, idle_2 c)
 
-pub returns-in-Refused : goal.returns-in-Refused
-returns-in-Refused c = sym c.loop-walk.invariant.0 ∙ subst (Advanced c.args.sheet.now c.loop-walk.walk) c.in-Refused.is c.advance.ensures
+pub returns-in_err-walk : goal.returns-in_err-walk
+returns-in_err-walk c =
+    let e = sym c.loop-walk.invariant.0 ∙ subst (Advanced c.args.sheet.now c.loop-walk.walk) c.in_err-walk.was c.advance.ensures in
+    subst (IsSettled _ _) (sym (failed _ c.from_residual.ensures)) e
 
 pub loop-walk-smaller : goal.loop-walk-smaller
 loop-walk-smaller c = let a = gone c in omega (arith, a.3)

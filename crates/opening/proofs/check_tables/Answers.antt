@@ -1,7 +1,7 @@
+use Rattle.std.specs.Prelude.{Ok}
 use mathlib.Core.Path.{sym, ap, ◌∙◌}
 use Rattle.base.proofs.ListLaws.{failing-passed, failing-here}
 use Rattle.voice.specs.declared.DiphoneVoice.{DiphoneVoice}
-use Rattle.voice.specs.declared.Opened.TheVariants.{Open}
 use Rattle.voice.specs.Header.{good_header}
 use Rattle.voice.specs.Voice.{places_of}
 use Rattle.voice.specs.Opening.{answer_opening}
@@ -43,4 +43,4 @@ pub returns : goal.returns
 returns c =
     let f = c.args.file.now in
     let h = ap good_header (sym c.header_bytes.ensures) ∙ sym c.is_good.ensures in
-    ap (λ (x : DiphoneVoice). Open x) c.places_of-d.ensures ∙ ap (answer_opening (places_of f)) (sym (failing-passed _ _ _ (h ∙ c.if-not-is_good.false) ∙ failing-passed _ _ _ (sym c.is_good-2.ensures ∙ c.if-not-is_good-2.false) ∙ failing-passed _ _ _ (sym c.has_good_index.ensures ∙ c.if-not-has_good_index.false) ∙ none-fails))
+    ap (λ (x : DiphoneVoice). Ok x) c.places_of-d.ensures ∙ ap (answer_opening (places_of f)) (sym (failing-passed _ _ _ (h ∙ c.if-not-is_good.false) ∙ failing-passed _ _ _ (sym c.is_good-2.ensures ∙ c.if-not-is_good-2.false) ∙ failing-passed _ _ _ (sym c.has_good_index.ensures ∙ c.if-not-has_good_index.false) ∙ none-fails))

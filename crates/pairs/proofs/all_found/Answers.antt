@@ -1,6 +1,9 @@
-use mathlib.Core.Path.{sym, ◌∙◌}
+use mathlib.Core.Path.{◌≡◌, sym, ap, subst, ◌∙◌}
+use mathlib.Core.Bool.{not}
+use Prim.Native.Nat.{◌+◌, ◌-◌}
 use native.Mathlib.Omega.{arith}
 use Rattle.voice.specs.Voice.{voice_of}
+use Rattle.units.specs.Asked.{Numbered}
 use Rattle.units.proofs.WalkLaws.{walking-number}
 use Rattle.pairs.proofs.PairLaws.{found_first, found_none, found-missing, found-next, found-empty}
 use Rattle.pairs.proofs.all_found.Goals as goal
@@ -14,34 +17,38 @@ sample-sampled-requires c = (c.requires.1, omega arith)
 pub first_pair-walk-requires : goal.first_pair-walk-requires
 first_pair-walk-requires c = (c.requires.1, omega arith)
 
-pub loop-walk-init : goal.loop-walk-init
-loop-walk-init c = (c.first_pair-walk.ensures.0.0, found_first _ _ _ _ c.first_pair-walk.result c.first_pair-walk.ensures.1)
+pub loop-number-init : goal.loop-number-init
+loop-number-init c =
+    let p = c.first_pair-walk.ensures in
+    (p.0.0, (found_first _ _ _ _ c.first_pair-walk.result p.1, p.0.1))
 
 pub next_pair-walk-requires : goal.next_pair-walk-requires
-next_pair-walk-requires c = (c.loop-walk.invariant.0, omega arith)
+next_pair-walk-requires c = (c.loop-number.invariant.0, omega (arith, c.loop-number.invariant.1.1))
 
-pub overflow_sub-number : goal.overflow_sub-number
-overflow_sub-number c = let w = c.next_pair-walk.ensures.0.0.fewer in omega (arith, w)
+pub find_tried-tried-requires : goal.find_tried-tried-requires
+find_tried-tried-requires c =
+    let n = c.next_pair-walk.ensures.0 in
+    let i = c.loop-number.invariant in
+    let count = c.args.by.places.segments.count in
+    let e : count - c.next_pair-walk.result.remaining ≡ c.loop-number.number + 1 = omega (arith, n.1, i.1.1) in
+    let k = subst (Numbered c.args.sheet.now c.next_pair-walk.result.left) e (walking-number _ _ c.next_pair-walk.result n.0) in
+    (c.requires.0, (c.requires.1, (c.sample-sampled.ensures, (i.0.reached.named, (n.0.reached.named, k)))))
 
-pub find_tried-requires : goal.find_tried-requires
-find_tried-requires c =
-    let w = c.next_pair-walk.ensures.0.0 in
-    (c.requires.0, (c.requires.1, (c.sample-sampled.ensures, (c.loop-walk.invariant.0.reached.named, (w.reached.named, walking-number _ _ c.next_pair-walk.result w)))))
-
-pub returns-in-Missing : goal.returns-in-Missing
-returns-in-Missing c =
+pub returns-then-is_none : goal.returns-then-is_none
+returns-then-is_none c =
     let a = c.args in
-    sym (c.loop-walk.invariant.1 ∙ found-missing (voice_of a.file.now) a.by.fold a.sheet.now _ c.loop-walk.walk c.next_pair-walk.result c.next_pair-walk.ensures.1 (sym c.find_tried.ensures ∙ c.in-Missing.is))
+    let i = c.loop-number.invariant in
+    sym (i.1.0 ∙ found-missing (voice_of a.file.now) a.by.fold a.sheet.now _ c.loop-number.walk c.next_pair-walk.result c.next_pair-walk.ensures.1 _ c.find_tried-tried.ensures (c.is_none.ensures ∙ ap not c.if-is_none.true))
 
-pub loop-walk-smaller : goal.loop-walk-smaller
-loop-walk-smaller c = omega (arith, c.next_pair-walk.ensures.0.1)
-
-pub loop-walk-preserved : goal.loop-walk-preserved
-loop-walk-preserved c =
+pub loop-number-preserved : goal.loop-number-preserved
+loop-number-preserved c =
     let a = c.args in
-    (c.next_pair-walk.ensures.0.0, c.loop-walk.invariant.1 ∙ found-next (voice_of a.file.now) a.by.fold a.sheet.now _ c.loop-walk.walk c.next_pair-walk.result c.next_pair-walk.ensures.1 _ (sym c.find_tried.ensures ∙ c.in-Found.is))
+    let i = c.loop-number.invariant in
+    let n = c.next_pair-walk.ensures in
+    (n.0.0, (i.1.0 ∙ found-next (voice_of a.file.now) a.by.fold a.sheet.now _ c.loop-number.walk c.next_pair-walk.result n.1 _ c.find_tried-tried.ensures (c.is_none.ensures ∙ ap not c.if-is_none.false), omega (arith, n.0.1, i.1.1)))
 
 pub returns : goal.returns
 returns c =
     let a = c.args in
-    sym (c.loop-walk.invariant.1 ∙ found_none (voice_of a.file.now) a.by.fold a.sheet.now _ c.loop-walk.walk (omega arith))
+    let i = c.loop-number.invariant in
+    sym (i.1.0 ∙ found_none (voice_of a.file.now) a.by.fold a.sheet.now _ c.loop-number.walk (omega (arith, i.1.1)))

@@ -1,15 +1,16 @@
-use mathlib.Core.Path.{sym, ap, ◌∙◌}
+use Rattle.std.proofs.Common.{◌≡◌, refl, ap, ◌∙◌}
+use denote.Enum.Bare.{sameb}
+use Rattle.phoneset.specs.contracts.Vc.{the_type}
+use Rattle.phoneset.specs.declared.Vc.{Vc}
+use Rattle.phoneset.specs.declared.Vc.TheVariants.{Plus, Minus, Zero}
 use Rattle.phoneset.specs.Phones.{is_plus, is_vowel}
 use Rattle.phoneset.proofs.is_vowel.Goals as goal
 
-pub returns-in-Plus : goal.returns-in-Plus
-unfolding is_vowel
-returns-in-Plus c = ap is_plus (sym c.in-Plus.is ∙ c.vc_of.ensures)
+plus : (v : Vc) → sameb the_type v Plus ≡ is_plus v
+plus Plus = refl
+plus Minus = refl
+plus Zero = refl
 
-pub returns-in-Minus : goal.returns-in-Minus
+pub returns : goal.returns
 unfolding is_vowel
-returns-in-Minus c = ap is_plus (sym c.in-Minus.is ∙ c.vc_of.ensures)
-
-pub returns-in-Zero : goal.returns-in-Zero
-unfolding is_vowel
-returns-in-Zero c = ap is_plus (sym c.in-Zero.is ∙ c.vc_of.ensures)
+returns c = c.eq.ensures ∙ plus _ ∙ ap is_plus c.vc_of.ensures

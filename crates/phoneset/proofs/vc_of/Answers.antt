@@ -1,17 +1,16 @@
 use Rattle.phoneset.specs.Phones.{vowels, consonants, vc}
-use Rattle.phoneset.specs.Words.{words, words_from}
 use Rattle.phoneset.proofs.vc_of.Goals as goal
 
-pub returns-then-is_word : goal.returns-then-is_word
-unfolding vc vowels consonants words words_from
-returns-then-is_word c = rw (← c.is_word.ensures, c.if-is_word.true)
+pub returns-then-is_among : goal.returns-then-is_among
+unfolding vc vowels consonants
+returns-then-is_among c = rw (← c.is_among.ensures, c.if-is_among.true)
 
-pub returns-then-is_word-2 : goal.returns-then-is_word-2
-unfolding vc vowels consonants words words_from
-returns-then-is_word-2 c =
-    rw (← c.is_word.ensures, c.if-is_word.false, ← c.is_word-2.ensures, c.if-is_word-2.true)
+pub returns-then-is_among-2 : goal.returns-then-is_among-2
+unfolding vc vowels consonants
+returns-then-is_among-2 c =
+    rw (← c.is_among.ensures, c.if-is_among.false, ← c.is_among-else-is_among.ensures, c.if-is_among-2.true)
 
-pub returns : goal.returns
-unfolding vc vowels consonants words words_from
-returns c =
-    rw (← c.is_word.ensures, c.if-is_word.false, ← c.is_word-2.ensures, c.if-is_word-2.false)
+pub returns-else-is_among-2 : goal.returns-else-is_among-2
+unfolding vc vowels consonants
+returns-else-is_among-2 c =
+    rw (← c.is_among.ensures, c.if-is_among.false, ← c.is_among-else-is_among.ensures, c.if-is_among-2.false)

@@ -2,4 +2,4 @@ use mathlib.Core.Path.{sym, ◌∙◌}
 use Rattle.probe_call.proofs.probe_pitch_marks.Goals as goal
 
 pub store_pitch_marks-requires : goal.store_pitch_marks-requires
-store_pitch_marks-requires c = sym c.read_sheet.ensures.0 ∙ c.in-Read.is
+store_pitch_marks-requires c = sym c.read_sheet.ensures.0 ∙ c.in-Ok.is

@@ -22,8 +22,8 @@ next_unit-step-requires c =
 pub store_natural-requires : goal.store_natural-requires
 store_natural-requires c = (c.requires.0.0, (c.next_unit-step.ensures.inside, c.loop-by.invariant.1.1))
 
-pub shape_of-marks-in-Refused : goal.shape_of-marks-in-Refused
-shape_of-marks-in-Refused c = c.store_natural.ensures.0 ∙ c.loop-by.invariant.1.0
+pub shape_of-marks-in-Err : goal.shape_of-marks-in-Err
+shape_of-marks-in-Err c = c.store_natural.ensures.0 ∙ c.loop-by.invariant.1.0
 
 pub loop-by-smaller : goal.loop-by-smaller
 loop-by-smaller c = let e = c.next_unit-step.ensures.fewer in omega (arith, e)
@@ -31,7 +31,7 @@ loop-by-smaller c = let e = c.next_unit-step.ensures.fewer in omega (arith, e)
 pub loop-by-preserved : goal.loop-by-preserved
 loop-by-preserved c =
     let l = c.loop-by in
-    let g = subst (Goes l.left) c.in-To.is c.store_natural.ensures.1 in
+    let g = subst (Goes l.left) c.in-Ok.is c.store_natural.ensures.1 in
     (c.next_unit-step.ensures.walking, (c.store_natural.ensures.0 ∙ l.invariant.1.0, (g.0, omega (arith, g.1, l.invariant.1.1.1))))
 
 pub overflow_sub-result : goal.overflow_sub-result

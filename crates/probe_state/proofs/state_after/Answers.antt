@@ -11,12 +11,6 @@ pub loop-k-init : goal.loop-k-init
 loop-k-init c =
     (omega arith, (state-first (codes_of c.args.packed.now) c.fresh-state.ensures.0, c.fresh-state.ensures.1))
 
-pub overflow_add-k : goal.overflow_add-k
-overflow_add-k c = omega arith
-
-pub loop-k-smaller : goal.loop-k-smaller
-loop-k-smaller c = omega arith
-
 pub loop-k-preserved : goal.loop-k-preserved
 loop-k-preserved c =
     let e = c.signals_of-g.ensures.0 in

@@ -5,17 +5,15 @@ use Rattle.replay.proofs.kind_of.Goals as goal
 
 pub returns-then-is_refused : goal.returns-then-is_refused
 returns-then-is_refused c =
-    let i = c.loop-number.invariant in
     let s = sym c.is_refused.ensures ∙ c.if-is_refused.true in
-    (sym (i.1 ∙ kind-here _ _ c.loop-number-test.true s), i.0)
+    (sym (c.loop-number.invariant ∙ kind-here _ _ (omega arith) s), omega arith)
 
 pub loop-number-preserved : goal.loop-number-preserved
 loop-number-preserved c =
-    let i = c.loop-number.invariant in
     let s = sym c.is_refused.ensures ∙ c.if-is_refused.false in
-    (omega (arith, i.0), i.1 ∙ kind-below _ _ c.loop-number-test.true s)
+    c.loop-number.invariant ∙ kind-below _ _ (omega arith) s
 
 pub returns : goal.returns
 returns c =
     let l = c.loop-number in
-    (kind-none _ l.number c.loop-number-test.false ∙ sym l.invariant.1, omega arith)
+    (kind-none _ l.number (omega arith) ∙ sym l.invariant, omega arith)

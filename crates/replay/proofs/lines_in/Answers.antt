@@ -1,11 +1,11 @@
--- One more byte.
-use Rattle.replay.proofs.StoredLaws.{lines_more, lines-all}
+-- The ends of lines, counted.
+use Rattle.std.proofs.Common.{◌≡◌, rules, sym, ◌∙◌}
+use Rattle.std.specs.List.{count_by}
+use Rattle.std.proofs.lemmas.List.Sums.{count_by-le-length}
+use Rattle.replay.proofs.StoredLaws.{ends, lines-count}
 use Rattle.replay.proofs.lines_in.Goals as goal
 
-pub loop-i-preserved : goal.loop-i-preserved
-loop-i-preserved c =
-    let e = c.line_end-n.ensures in
-    lines_more _ c.loop-i.i c.loop-i.invariant c.loop-i-test.true e.0 e.1
-
 pub returns : goal.returns
-returns c = lines-all _ c.loop-i.i c.loop-i.invariant c.loop-i-test.false
+returns c =
+    let n : c.count.result ≡ count_by ends c.args.text.now = search rules in
+    (n ∙ sym (lines-count _), rw n (count_by-le-length ends _))

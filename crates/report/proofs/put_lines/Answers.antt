@@ -12,7 +12,7 @@ pub loop-i-preserved : goal.loop-i-preserved
 loop-i-preserved c =
     let l = c.loop-i in
     let p = c.put_report_line-end.ensures in
-    turn _ _ _ _ _ _ l.i l.invariant c.loop-i-test.true
+    turn _ _ _ _ _ _ l.i l.invariant (omega arith)
     (line_read _ l.i c.u32_at-pair.ensures c.u32_at-half.ensures c.u32_at-first.ensures c.u32_at-size.ensures)
     p.puts p.upper_bound
 

@@ -1,7 +1,7 @@
+use Rattle.std.specs.Prelude.{Some}
 use mathlib.Core.Path.{sym, ap, ◌∙◌}
 use Prim.Native.Nat.{◌+◌, ◌-◌, ◌/◌}
 use Rattle.index.specs.Index.{periods_of, found_of}
-use Rattle.index.specs.declared.FoundEntry.TheVariants.{Found}
 use Rattle.index.proofs.AscendingLaws.{sort-lookup, sort-ascending, length-sorted}
 use Rattle.search.proofs.SearchLaws.{compared, told-before, told_same, told-after, between_start, between-end, between-up, between-down, between-here}
 use native.Mathlib.Omega.{arith}
@@ -19,27 +19,27 @@ sorted_place-at-requires c = (c.requires.0, omega arith)
 pub name_at-requires : goal.name_at-requires
 name_at-requires c = c.sorted_place-at.ensures.1
 
-pub loop-lo-preserved-in-Before : goal.loop-lo-preserved-in-Before
-loop-lo-preserved-in-Before c =
+pub loop-lo-preserved-in-Less : goal.loop-lo-preserved-in-Less
+loop-lo-preserved-in-Less c =
     let l = c.loop-lo in
-    let o = compared _ _ _ _ _ _ c.compare.ensures c.in-Before.is c.name_at.ensures c.sorted_place-at.ensures.0 in
+    let o = compared _ _ _ _ _ _ c.compare.ensures c.in-Less.is c.name_at.ensures c.sorted_place-at.ensures.0 in
     (l.invariant.0, between-up _ _ (sort-ascending _ c.requires.1) _ _ (l.lo + (l.hi - l.lo) / 2) l.invariant.1 (omega arith) (omega arith) (told-before _ _ o))
 
 pub periods_at-requires : goal.periods_at-requires
 periods_at-requires c = c.sorted_place-at.ensures.1
 
-pub returns-in-Same : goal.returns-in-Same
-returns-in-Same c =
+pub returns-in-Equal : goal.returns-in-Equal
+returns-in-Equal c =
     let l = c.loop-lo in
     let s = c.sorted_place-at.ensures.0 in
-    let o = compared _ _ _ _ _ _ c.compare.ensures c.in-Same.is c.name_at.ensures s in
+    let o = compared _ _ _ _ _ _ c.compare.ensures c.in-Equal.is c.name_at.ensures s in
     let h = between-here _ _ (sort-ascending _ c.requires.1) _ _ (l.lo + (l.hi - l.lo) / 2) l.invariant.1 (omega arith) (omega arith) (told_same _ _ o) in
-    ap Found (c.periods_at.ensures.0 ∙ ap periods_of s) ∙ ap found_of (sym h ∙ sort-lookup _ c.requires.1 _)
+    ap Some (c.periods_at.ensures.0 ∙ ap periods_of s) ∙ ap found_of (sym h ∙ sort-lookup _ c.requires.1 _)
 
 pub loop-lo-preserved : goal.loop-lo-preserved
 loop-lo-preserved c =
     let l = c.loop-lo in
-    let o = compared _ _ _ _ _ _ c.compare.ensures c.in-After.is c.name_at.ensures c.sorted_place-at.ensures.0 in
+    let o = compared _ _ _ _ _ _ c.compare.ensures c.in-Greater.is c.name_at.ensures c.sorted_place-at.ensures.0 in
     (omega arith, between-down _ _ (sort-ascending _ c.requires.1) _ _ (l.lo + (l.hi - l.lo) / 2) l.invariant.1 (omega arith) (omega arith) (told-after _ _ o))
 
 pub returns : goal.returns

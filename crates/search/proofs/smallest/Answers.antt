@@ -8,22 +8,22 @@ use Rattle.search.proofs.smallest.Goals as goal
 pub next_entry-at-requires : goal.next_entry-at-requires
 next_entry-at-requires c = (turn _ _ _ c.requires.1 c.requires.0).fits
 
-pub loop-left-init : goal.loop-left-init
-loop-left-init c = seeking-start _ _ _ c.requires.1 c.requires.0 c.next_entry-at.ensures.0
+pub loop-init : goal.loop-init
+loop-init c = (omega arith, seeking-start _ _ _ c.requires.1 c.requires.0 c.next_entry-at.ensures.0)
 
 pub earlier-best-requires : goal.earlier-best-requires
 earlier-best-requires c =
-    let s = c.loop-left.invariant in
+    let s = c.loop.invariant.1 in
     (s.fits, (turn _ _ _ (omega arith) s.whole).fits)
 
-pub next_entry-at-requires-in-loop-left : goal.next_entry-at-requires-in-loop-left
-next_entry-at-requires-in-loop-left c = (turn _ _ _ (omega arith) c.loop-left.invariant.whole).fits
+pub next_entry-at-requires-in-loop : goal.next_entry-at-requires-in-loop
+next_entry-at-requires-in-loop c = (turn _ _ _ (omega arith) c.loop.invariant.1.whole).fits
 
-pub loop-left-preserved : goal.loop-left-preserved
-loop-left-preserved c = seeking-more _ _ _ _ _ c.loop-left.invariant (omega arith) _ _ c.earlier-best.ensures c.next_entry-at-in-loop-left.ensures.0
+pub loop-preserved : goal.loop-preserved
+loop-preserved c = (omega arith, seeking-more _ _ _ _ _ _ (omega arith) c.loop.invariant.1 (omega arith) _ _ c.earlier-best.ensures c.next_entry-at-in-loop.ensures.0)
 
 pub periods_at-requires : goal.periods_at-requires
-periods_at-requires c = c.loop-left.invariant.fits
+periods_at-requires c = c.loop.invariant.1.fits
 
 pub returns : goal.returns
-returns c = (c.periods_at.ensures.0 ∙ ap periods_of (seeking-end _ _ _ _ _ c.loop-left.invariant (omega arith)), c.periods_at.ensures.1)
+returns c = (c.periods_at.ensures.0 ∙ ap periods_of (seeking-end _ _ _ _ _ c.loop.invariant.1 (omega arith)), c.periods_at.ensures.1)

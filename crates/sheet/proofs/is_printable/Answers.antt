@@ -1,18 +1,15 @@
-use Rattle.std.proofs.Common.{sym, refl, ◌∙◌, arith}
-use Rattle.sheet.proofs.NameLaws.{printable-low, printable-high, printable-more, printable-done}
+use Rattle.std.proofs.Common.{refl, ◌∙◌, ◌&&◌, rules, tests}
+use Rattle.std.specs.List.{list_all}
+use Rattle.std.proofs.lemmas.Iterator.{YieldsList-from_slice}
+use Rattle.std.proofs.lemmas.Iterator.Search.{all_from_yields_List}
+use Rattle.std.proofs.lemmas.List.Recursion.{same_from_clauses}
+use Rattle.base.specs.Choice.{within}
+use Rattle.sheet.specs.Sheet.{printable}
 use Rattle.sheet.proofs.is_printable.Goals as goal
 
-pub loop-i-init : goal.loop-i-init
-loop-i-init c = refl
-
-pub returns-then-bytes-i-lt33 : goal.returns-then-bytes-i-lt33
-returns-then-bytes-i-lt33 c = let b = c.args.bytes.now in sym (printable-low b c.loop-i.i (omega arith) c.if-bytes-i-lt33.true) ∙ c.loop-i.invariant
-
-pub returns-then-bytes-i-gt126 : goal.returns-then-bytes-i-gt126
-returns-then-bytes-i-gt126 c = let b = c.args.bytes.now in sym (printable-high b c.loop-i.i (omega arith) (omega arith) c.if-bytes-i-gt126.true) ∙ c.loop-i.invariant
-
-pub loop-i-preserved : goal.loop-i-preserved
-loop-i-preserved c = let b = c.args.bytes.now in sym (printable-more b c.loop-i.i (omega arith) (omega arith) (omega arith)) ∙ c.loop-i.invariant
-
 pub returns : goal.returns
-returns c = let b = c.args.bytes.now in sym (printable-done b c.loop-i.i (omega arith)) ∙ c.loop-i.invariant
+unfolding printable
+returns c =
+    let bytes = c.args.bytes.now in
+    all_from_yields_List (within 33 126) _ _ _ c.all.ensures.ran (YieldsList-from_slice bytes cc) (λ x b q k. search (rules, tests))
+    ∙ same_from_clauses (list_all (within 33 126)) printable (λ b rest. within 33 126 b && rest) refl (λ _ _. refl) (λ _ _. refl) bytes

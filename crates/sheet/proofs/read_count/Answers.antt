@@ -1,20 +1,18 @@
-use Rattle.std.proofs.Common.{refl, ap, arith, le-ltb, lt-ltb}
+use Rattle.std.proofs.Common.{refl, arith, le-ltb, lt-ltb}
 use Rattle.sheet.specs.Sheet.{count}
-use Rattle.sheet.specs.Answers.{number_says}
-use Rattle.sheet.proofs.AnswerLaws.{read, test-passes, test-fails, stops, goes_on, read-within}
+use Rattle.sheet.proofs.AnswerLaws.{read, test-passes, test-fails, exits, goes_on}
 use Rattle.sheet.proofs.read_count.Goals as goal
 
-pub returns-then-n-gt4096 : goal.returns-then-n-gt4096
+pub returns-in_err-count : goal.returns-in_err-count
 unfolding count
-returns-then-n-gt4096 c = goes_on c.read_number.ensures _ (ap number_says c.in-Read.is) (test-passes _ (lt-ltb _ _ c.if-n-gt4096.true))
+returns-in_err-count c = exits _ _ c.from_residual.ensures.1 c.in_err-count.ensures
 
-pub returns-in-Refused : goal.returns-in-Refused
+pub returns-then-count-gt4096 : goal.returns-then-count-gt4096
 unfolding count
-returns-in-Refused c = stops c.read_number.ensures _ (ap number_says c.in-Refused.is)
+returns-then-count-gt4096 c = goes_on _ c.in_ok-count.ensures (test-passes _ (lt-ltb _ _ c.if-count-gt4096.true))
 
-pub returns-else-n-gt4096 : goal.returns-else-n-gt4096
+pub returns : goal.returns
 unfolding count
-returns-else-n-gt4096 c =
-    let i = c.read_number.ensures in
-    let e = ap number_says c.in-Read.is in
-    goes_on i _ e (test-fails (le-ltb _ _ c.if-n-gt4096.false) (read refl (read-within i e).0 (omega arith)))
+returns c =
+    let i = c.in_ok-count.ensures in
+    goes_on _ i (test-fails (le-ltb _ _ c.if-count-gt4096.false) (read refl i.within.0 (omega arith)))

@@ -1,22 +1,16 @@
-use Rattle.std.proofs.Common.{refl, ap}
+use Rattle.std.proofs.Common.{refl}
 use Rattle.sheet.specs.Sheet.{target}
-use Rattle.sheet.specs.Answers.{value_says}
-use Rattle.sheet.proofs.AnswerLaws.{read, stops, goes_on, read-within}
+use Rattle.sheet.proofs.AnswerLaws.{read, exits, goes_on}
 use Rattle.sheet.proofs.read_target.Goals as goal
 
-pub returns-in-Refused : goal.returns-in-Refused
+pub returns-in_err-pos : goal.returns-in_err-pos
 unfolding target
-returns-in-Refused c = stops c.read_value.ensures _ (ap value_says c.in-Refused.is)
+returns-in_err-pos c = exits _ _ c.from_residual.ensures.1 c.in_err-pos.ensures
 
-pub returns-in-Refused-read_value : goal.returns-in-Refused-read_value
+pub returns-in_err-f0 : goal.returns-in_err-f0
 unfolding target
-returns-in-Refused-read_value c =
-    goes_on c.read_value.ensures _ (ap value_says c.in-Read.is)
-    (stops c.read_value-in-Read.ensures _ (ap value_says c.in-Refused-read_value.is))
+returns-in_err-f0 c = goes_on _ c.in_ok-pos.ensures (exits _ _ c.from_residual-in_err-f0.ensures.1 c.in_err-f0.ensures)
 
-pub returns-in-Read-read_value : goal.returns-in-Read-read_value
+pub returns : goal.returns
 unfolding target
-returns-in-Read-read_value c =
-    let e = ap value_says c.in-Read-read_value.is in
-    goes_on c.read_value.ensures _ (ap value_says c.in-Read.is)
-    (goes_on c.read_value-in-Read.ensures _ e (read refl (read-within c.read_value-in-Read.ensures e).0 tt))
+returns c = goes_on _ c.in_ok-pos.ensures (goes_on _ c.in_ok-f0.ensures (read refl c.in_ok-f0.ensures.within.0 tt))

@@ -1,40 +1,35 @@
-use Rattle.std.proofs.Common.{◌+◌, ℤ, ap, ◌∙◌, arith, to_z-of_z, w32, SFits}
-use Rattle.sheet.specs.Answers.{reads, value_says}
-use Rattle.sheet.specs.declared.Value.TheVariants.{Int}
-use Rattle.sheet.proofs.AnswerLaws.{same-says}
-use Rattle.sheet.proofs.ValueLaws.{value-end, value-absent, value-text, value-unknown, value-cut, value-int, value-float}
+use Rattle.std.proofs.Common.{refl, ◌∙◌, arith, to_z-of_z, w32, SFits}
+use Rattle.sheet.specs.Sheet.{value_of}
+use Rattle.sheet.proofs.AnswerLaws.{read, refused, same-reading, exits, goes_on}
+use Rattle.sheet.proofs.ValueLaws.{value-end, by_kind, int-word, unknown}
 use Rattle.sheet.proofs.read_value.Goals as goal
 
-pub returns-then-sheet-at : goal.returns-then-sheet-at
-returns-then-sheet-at c = let a = c.args in value-end a.sheet.now a.at c.if-sheet-at.true
+pub returns-in_default : goal.returns-in_default
+returns-in_default c = value-end _ _ (omega (arith, c.in_default.ensures.lookup))
 
-pub returns-then-kind-eq2 : goal.returns-then-kind-eq2
-returns-then-kind-eq2 c = let a = c.args in value-absent a.sheet.now a.at (omega arith) c.if-kind-eq2.true
+pub returns-in_err-word-in-0 : goal.returns-in_err-word-in-0
+returns-in_err-word-in-0 c =
+    same-reading (by_kind _ _ _ c.in-Some.ensures.lookup.3 0 c.in-0.is ∙ int-word _) (exits _ _ c.from_residual.ensures.1 c.in_err-word-in-0.ensures)
 
-pub returns-then-kind-eq3 : goal.returns-then-kind-eq3
-returns-then-kind-eq3 c =
-    let a = c.args in
-    value-text a.sheet.now a.at (omega arith) c.if-kind-eq3.true _ c.read_text.ensures
+pub returns-in_ok-word-in-0 : goal.returns-in_ok-word-in-0
+returns-in_ok-word-in-0 c =
+    let i = c.in_ok-word-in-0.ensures in
+    let f : SFits w32 c.cast_signed.result = record { sfits = c.cast_signed.type_inv } in
+    same-reading (by_kind _ _ _ c.in-Some.ensures.lookup.3 0 c.in-0.is ∙ int-word _)
+    (goes_on _ i (rw (to_z-of_z f ∙ c.cast_signed.ensures) (read refl i.within.0 tt)))
 
-pub returns-then-kind-gt2 : goal.returns-then-kind-gt2
-returns-then-kind-gt2 c =
-    let a = c.args in
-    value-unknown a.sheet.now a.at (omega arith) c.if-kind-gt2.true c.if-kind-eq3.false
+pub returns-in-1 : goal.returns-in-1
+returns-in-1 c = same-reading (by_kind _ _ _ c.in-Some.ensures.lookup.3 1 c.in-1.is) c.read_float.ensures
 
-pub returns-then-sheet-from-lt4 : goal.returns-then-sheet-from-lt4
-returns-then-sheet-from-lt4 c = let a = c.args in value-cut a.sheet.now a.at (omega arith) (omega arith) c.if-sheet-from-lt4.true
+pub returns-in-2 : goal.returns-in-2
+unfolding value_of
+returns-in-2 c =
+    let got = c.in-Some.ensures.lookup.3 in
+    same-reading (by_kind _ _ _ got 2 c.in-2.is) (read refl (omega (arith, got.0)) tt)
 
-pub returns-then-kind-eq0 : goal.returns-then-kind-eq0
-returns-then-kind-eq0 c =
-    let a = c.args in
-    let f : SFits w32 c.word_to_i32.result = record { sfits = c.word_to_i32.type_inv } in
-    same-says
-    (ap (λ (z : ℤ). reads (Int z) (a.at + 1 + 4)) (to_z-of_z f ∙ c.word_to_i32.ensures))
-    (value-int a.sheet.now a.at (omega arith) (omega arith) _ c.read_u32-word.ensures c.if-kind-eq0.true)
+pub returns-in-3 : goal.returns-in-3
+unfolding value_of
+returns-in-3 c = same-reading (by_kind _ _ _ c.in-Some.ensures.lookup.3 3 c.in-3.is) c.read_text.ensures
 
-pub returns : goal.returns
-returns c =
-    let a = c.args in
-    same-says
-    (ap value_says c.float_value.ensures)
-    (value-float a.sheet.now a.at (omega arith) (omega arith) _ c.read_u32-word.ensures (omega arith))
+pub returns-in_default-kind : goal.returns-in_default-kind
+returns-in_default-kind c = refused (by_kind _ _ _ c.in-Some.ensures.lookup.3 _ refl ∙ unknown _ _ (omega arith))

@@ -8,7 +8,7 @@ pub returns-then-is_too_long-clause-puts : goal.returns-then-is_too_long-clause-
 unfolding text_of within_limits
 returns-then-is_too_long-clause-puts c =
     let e = sym c.is_too_long.ensures ∙ c.if-is_too_long.true in
-    rw e (rw c.number.ensures at c.put_refused.ensures.puts)
+    rw e (rw c.from.ensures at c.put_refused.ensures.puts)
 
 pub returns-clause-puts : goal.returns-clause-puts
 unfolding text_of within_limits

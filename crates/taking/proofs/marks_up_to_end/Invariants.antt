@@ -1,5 +1,5 @@
 use mathlib.Core.Path.{◌≡◌}
-use Prim.Native.Nat.{◌+◌, ◌-◌, ◌/◌, ◌≤◌, max}
+use Prim.Native.Nat.{◌+◌, ◌/◌, ◌≤◌, max}
 use lib.ListN.{length, drop}
 use Rattle.base.specs.Bytes.{elements}
 use Rattle.excitation.specs.Shares.{up_to_end}
@@ -7,7 +7,4 @@ use Rattle.taking.proofs.marks_up_to_end.Given as goal
 
 abbrev pub invariant-loop-end : goal.invariant-loop-end
 invariant-loop-end l =
-    (l.taken + up_to_end l.unit (drop l.taken (elements 4 l.marks)) ≡ l.end + up_to_end l.unit (drop l.end (elements 4 l.marks))) × (l.end ≤ max l.taken (length l.marks / 4))
-
-abbrev pub decreases-loop-end : goal.decreases-loop-end
-decreases-loop-end l = l.count - l.end
+    (l.taken ≤ l.end) × ((l.taken + up_to_end l.unit (drop l.taken (elements 4 l.marks)) ≡ l.end + up_to_end l.unit (drop l.end (elements 4 l.marks))) × (l.end ≤ max l.taken (length l.marks / 4)))

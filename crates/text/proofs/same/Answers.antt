@@ -1,18 +1,6 @@
-use mathlib.Core.Path.{ap, sym, ◌∙◌}
-use Rattle.text.proofs.NameLaws.{is_same, same-order}
+use Rattle.std.proofs.Common.{◌∙◌}
+use Rattle.text.proofs.NameLaws.{same_is}
 use Rattle.text.proofs.same.Goals as goal
 
-pub returns-in-Before : goal.returns-in-Before
-returns-in-Before c =
-    let a = c.args in
-    ap is_same (sym c.in-Before.is ∙ c.compare.ensures) ∙ same-order a.a.now a.b.now
-
-pub returns-in-Same : goal.returns-in-Same
-returns-in-Same c =
-    let a = c.args in
-    ap is_same (sym c.in-Same.is ∙ c.compare.ensures) ∙ same-order a.a.now a.b.now
-
-pub returns-in-After : goal.returns-in-After
-returns-in-After c =
-    let a = c.args in
-    ap is_same (sym c.in-After.is ∙ c.compare.ensures) ∙ same-order a.a.now a.b.now
+pub returns : goal.returns
+returns c = c.eq.ensures ∙ same_is c.args.a.now c.args.b.now

@@ -1,21 +1,21 @@
-use native.Mathlib.Omega.{arith}
-use mathlib.Core.Path.{sym, ap, ◌∙◌}
-use Rattle.text.specs.Utf8.{complete, utf8}
+use Rattle.std.proofs.Common.{ℕ, List, length, sym, ap, ◌∙◌, arith}
+use Rattle.std.proofs.lemmas.Slice.{between_to_end}
+use Rattle.text.specs.Utf8.{needs, waits, complete, utf8}
 use Rattle.text.proofs.Utf8Laws.{waits-more, waits-done}
 use Rattle.text.proofs.utf8.Goals as goal
 
-pub loop-i-init : goal.loop-i-init
+pub loop-b-init : goal.loop-b-init
 unfolding utf8
-loop-i-init c = c.ascii_end-i.ensures
-
-pub loop-i-preserved : goal.loop-i-preserved
-loop-i-preserved c =
-    let l = c.loop-i in
+loop-b-init c =
     let s = c.args.s.now in
-    (omega arith, rw c.step-w.ensures (sym (ap complete (waits-more l.w s l.i (omega arith))) ∙ l.invariant.1))
+    ap (λ (l : List ℕ). complete (waits (needs 0 0 0) l)) (between_to_end s c.ascii_end.result (length s) (omega arith)) ∙ c.ascii_end.ensures.1
+
+pub loop-b-preserved : goal.loop-b-preserved
+loop-b-preserved c =
+    let l = c.loop-b in
+    rw c.step-w.ensures (sym (ap complete (waits-more l.w _ l.b-index (omega arith))) ∙ l.invariant)
 
 pub returns : goal.returns
 returns c =
-    let l = c.loop-i in
-    let s = c.args.s.now in
-    c.complete.ensures ∙ sym (ap complete (waits-done l.w s l.i (omega arith))) ∙ l.invariant.1
+    let l = c.loop-b in
+    c.complete.ensures ∙ sym (ap complete (waits-done l.w _ l.b-index (omega arith))) ∙ l.invariant

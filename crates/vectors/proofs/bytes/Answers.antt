@@ -1,13 +1,11 @@
--- One more turn joins one more tally.
-use Rattle.std.proofs.Common.{arith}
-use Rattle.vectors.proofs.TallyLaws.{start, turn}
+use Rattle.std.proofs.Common.{arith, rules}
+use Rattle.vectors.specs.Vectors.{byte}
+use Rattle.vectors.proofs.TallyLaws.{one-within, all-within, wider}
 use Rattle.vectors.proofs.bytes.Goals as goal
 
-pub loop-k-init : goal.loop-k-init
-loop-k-init c = start _ _ _ c.none-t.ensures
-
-pub loop-k-preserved : goal.loop-k-preserved
-loop-k-preserved c =
-    let l = c.loop-k in
-    let x = c.one in
-    turn _ _ _ l.k l.invariant (omega arith) x.ensures.0 x.ensures.1 c.joined-t.ensures
+pub returns : goal.returns
+returns c =
+    let a = c.args in
+    let f = byte a.got.now a.want.now in
+    let e = c.all_of.ensures f (λ i t h q. search rules) in
+    (e, rw e (wider a.n 131072 (omega arith) (all-within f (λ k. one-within _) a.n)))

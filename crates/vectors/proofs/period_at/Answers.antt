@@ -9,8 +9,8 @@ returns-then-to-codes c =
     let a = c.args in
     (period-within a.periods.now a.codes.now a.words.now a.want.now a.i c.u16_at-from.ensures c.u16_at.ensures c.if-to-codes.true c.period.ensures.0, c.period.ensures.1)
 
-pub returns : goal.returns
-returns c =
+pub returns-else-to-codes : goal.returns-else-to-codes
+returns-else-to-codes c =
     let a = c.args in (
       period-outside a.periods.now a.codes.now a.words.now a.want.now a.i c.u16_at-from.ensures c.u16_at.ensures c.if-to-codes.false c.one.ensures.0,
       wider 1 262144 (omega arith) c.one.ensures.1,

@@ -1,10 +1,9 @@
-use native.Mathlib.Numerals.{add-one}
-use native.Mathlib.Omega.{arith}
-use Rattle.base.specs.Bytes.{little_endian}
+use Rattle.std.proofs.Common.{◌∙◌}
+use native.Mathlib.Nat.{add-zero}
+use Rattle.base.proofs.ByteLaws.{little_endian-read}
 use Rattle.base.proofs.bytes.read_u16.Goals as goal
 
 pub returns : goal.returns
-unfolding little_endian
 returns c =
     let a = c.args in
-    omega (arith, c.wide.ensures.0, rw (add-one a.at) at c.wide-2.ensures.0)
+    c.from_le_bytes.ensures ∙ rw (add-zero a.at) at (little_endian-read 1 a.s.now a.at)

@@ -1,7 +1,8 @@
-use Rattle.base.proofs.ByteLaws.{sets-join}
+use Rattle.std.proofs.Common.{◌∙◌}
+use Rattle.base.proofs.ByteLaws.{written}
 use Rattle.base.proofs.bytes.write_u32.Goals as goal
 
 pub returns : goal.returns
 returns c =
     let a = c.args in
-    cc (sets-join 2 2 a.v a.buf.now a.at)
+    written 4 a.v a.buf.now _ a.at c.requires (c.copy_from_slice.ensures.after ∙ c.to_le_bytes.ensures)

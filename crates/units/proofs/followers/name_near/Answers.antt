@@ -14,20 +14,19 @@ walk_at-walk-requires c =
     let e = k.ensures (omega arith) in
     (subst (Starts _ _ _) (sym e) (p.0.starts _ (subst (λ (n : ℕ). 0 < n) e (omega arith))), omega arith)
 
-pub loop-walk-init : goal.loop-walk-init
-loop-walk-init c = (c.walk_at-walk.ensures.0, omega (arith, c.walk_at-walk.ensures.1))
+pub loop-init : goal.loop-init
+loop-init c = (c.walk_at-walk.ensures.0, omega (arith, c.walk_at-walk.ensures.1))
 
 pub next_pair-walk-requires : goal.next_pair-walk-requires
-next_pair-walk-requires c = (c.loop-walk.invariant.0, omega arith)
+next_pair-walk-requires c = (c.loop.invariant.0, omega (arith, c.loop.invariant.1))
 
-pub loop-walk-smaller : goal.loop-walk-smaller
-loop-walk-smaller c = omega (arith, c.next_pair-walk.ensures.0.1)
-
-pub loop-walk-preserved : goal.loop-walk-preserved
-loop-walk-preserved c = let n = c.next_pair-walk.ensures.0 in (n.0, omega (arith, n.1))
+pub loop-preserved : goal.loop-preserved
+loop-preserved c =
+    let n = c.next_pair-walk.ensures.0 in
+    (n.0, omega (arith, n.1, c.loop.invariant.1))
 
 pub returns : goal.returns
 returns c =
-    let l = c.loop-walk in
+    let l = c.loop in
     let w = l.invariant.0 in
-    (walking-number _ _ l.walk w ∙ ap (name_of (sheet_of _).segments) (omega (arith, w.fewer)), w.reached.named.within)
+    (walking-number _ _ l.walk w ∙ ap (name_of (sheet_of _).segments) (omega (arith, w.fewer, l.invariant.1)), w.reached.named.within)

@@ -6,6 +6,7 @@ use Rattle.base.proofs.BufferLaws.{length_over}
 use Rattle.text.proofs.NameLaws.{same-eq}
 use Rattle.units.proofs.NameLaws.{fold-off, fold-other, stored-folded}
 use Rattle.units.proofs.names.put_name.Goals as goal
+use Rattle.units.proofs.names.put_name.Goals.{else-fold-via-then-fold+else-same, else-fold-via-else-fold}
 
 pub bounds-buf-1 : goal.bounds-buf-1
 bounds-buf-1 c =
@@ -17,10 +18,11 @@ pub returns-then-same : goal.returns-then-same
 returns-then-same c =
     stored-folded c.args.fold c.args.name.now _ c.args.buf.now c.if-fold.true (sym c.same.ensures ∙ c.if-same.true) c.copy.ensures
 
-pub returns-else-same : goal.returns-else-same
-returns-else-same c =
-    c.copy.ensures ∙ ap (λ n. over n c.args.buf.now) (fold-other c.args.fold c.args.name.now (sym c.same.ensures ∙ c.if-same.false))
-
 pub returns-else-fold : goal.returns-else-fold
 returns-else-fold c =
-    c.copy.ensures ∙ ap (λ n. over n c.args.buf.now) (fold-off c.args.fold c.args.name.now c.if-fold.false)
+    c.copy.ensures
+    ∙ ap (λ n. over n c.args.buf.now)
+    (elim c.else-fold.branch [
+      | else-fold-via-then-fold+else-same w ↦ fold-other c.args.fold c.args.name.now (sym w.same.ensures ∙ w.if-same.false)
+      | else-fold-via-else-fold w ↦ fold-off c.args.fold c.args.name.now w.if-fold.false
+    ])

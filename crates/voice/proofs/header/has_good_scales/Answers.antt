@@ -6,6 +6,6 @@ pub returns-then-in_scale : goal.returns-then-in_scale
 unfolding good_scales
 returns-then-in_scale c = let e = sym c.in_scale.ensures ∙ c.if-in_scale.true in rw e c.in_scale-then-in_scale.ensures
 
-pub returns : goal.returns
+pub returns-else-in_scale : goal.returns-else-in_scale
 unfolding good_scales
-returns c = let e = sym c.in_scale.ensures ∙ c.if-in_scale.false in rw e
+returns-else-in_scale c = let e = sym c.in_scale.ensures ∙ c.if-in_scale.false in rw e c.if-in_scale.false

@@ -11,8 +11,8 @@ returns-then-x c =
     let e : le (fin true 1 (pos 4)) c.args.x ≡ true = c.if-x.true in
     rw e refl
 
-pub returns : goal.returns
+pub returns-else-x : goal.returns-else-x
 unfolding in_scale of_bits neg
-returns c =
+returns-else-x c =
     let e : le (fin true 1 (pos 4)) c.args.x ≡ false = c.if-x.false in
     rw e

@@ -16,9 +16,9 @@ returns-then-has_good_numbers c =
     let numbers = ap good_numbers (sym h) ∙ sym c.has_good_numbers.ensures ∙ c.if-has_good_numbers.true in
     c.has_good_scales.ensures ∙ ap good_scales h ∙ sym (every-pass _ _ (le-leb 40 _ c.if-bytes-lt40.false) ∙ every-pass _ _ numbers ∙ every_one _)
 
-pub returns : goal.returns
+pub returns-else-has_good_numbers : goal.returns-else-has_good_numbers
 unfolding good_header
-returns c =
+returns-else-has_good_numbers c =
     let h = c.header_of-h.ensures in
     let numbers = ap good_numbers (sym h) ∙ sym c.has_good_numbers.ensures ∙ c.if-has_good_numbers.false in
-    sym (every-pass _ _ (le-leb 40 _ c.if-bytes-lt40.false) ∙ every-fail _ _ numbers)
+    c.if-has_good_numbers.false ∙ sym (every-pass _ _ (le-leb 40 _ c.if-bytes-lt40.false) ∙ every-fail _ _ numbers)

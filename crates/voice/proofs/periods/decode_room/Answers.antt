@@ -18,9 +18,9 @@ returns-then-d-eq0 c =
     let e = eq-eqb d.header.codec 0 c.if-d-eq0.true in
     (sym (ap (λ (h : VoiceHeader). decode_room_by (codec_of h) (longest (voice_of f) h.frames)) h ∙ rw e), omega arith)
 
-pub returns : goal.returns
+pub returns-else-d-eq0 : goal.returns-else-d-eq0
 unfolding decode_room
-returns c =
+returns-else-d-eq0 c =
     let f = c.args.file.now in
     let d = c.args.d in
     let h = header_is f d c.requires.places in

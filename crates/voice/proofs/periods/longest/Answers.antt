@@ -19,7 +19,7 @@ pub next_longer-p-requires-in-loop-p : goal.next_longer-p-requires-in-loop-p
 unfolding longest
 next_longer-p-requires-in-loop-p c =
     let l = c.loop-p in
-    let m = c.larger-most.ensures in
+    let m = c.max-most.ensures in
     (c.requires, (omega arith, rw (add-one l.p) (m ∙ rw (c.gap.ensures.0, sym l.invariant.1.0))))
 
 pub loop-p-smaller : goal.loop-p-smaller
@@ -27,7 +27,7 @@ loop-p-smaller c = let e = c.next_longer-p-in-loop-p.ensures.1.0 in omega arith
 
 pub loop-p-preserved : goal.loop-p-preserved
 loop-p-preserved c =
-    let m = c.larger-most.ensures in
+    let m = c.max-most.ensures in
     let g = c.gap.ensures.1 in
     let i = c.loop-p.invariant.1.1 in
     (c.next_longer-p-in-loop-p.ensures.1.1, (c.next_longer-p-in-loop-p.ensures.0, omega (arith, m, g, i)))

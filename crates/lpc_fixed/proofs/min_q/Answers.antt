@@ -1,8 +1,0 @@
-use Rattle.std.proofs.Common.{refl, ◌∙◌, to_z-of_z, w32}
-use lib.Ieee.{of_bits, of_int}
-use Rattle.lpc_fixed.proofs.ValueLaws.{scaled}
-use Rattle.lpc_fixed.proofs.min_q.Goals as goal
-
-pub returns : goal.returns
-unfolding of_bits of_int
-returns c = to_z-of_z {w = w32} (record { sfits = c.f32_to_i32.type_inv }) ∙ c.f32_to_i32.ensures ∙ scaled 32768 c.args.coeff_min _ refl
