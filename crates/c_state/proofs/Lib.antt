@@ -2,4 +2,3 @@
 pub mod StateLaws
 pub mod RoundLaws
 pub mod StorableLaws
-pub mod ArrayLaws

@@ -1,21 +1,24 @@
 // A filter state in bytes, as a program in C keeps it.
 #![tactic(auto)]
 
-ghost use Rattle.std.specs.Prelude.{◌≡◌, ◌≤◌, length};
-ghost use Rattle.std.specs.Float.{binary32};
-ghost use Rattle.std.specs.Float.Ieee.{of_bits};
+ghost use Rattle.std.specs.Prelude.{◌≡◌, ◌≤◌, length, get_or};
+ghost use Rattle.std.specs.Float.{nan, binary32};
+ghost use Rattle.std.specs.Float.Ieee.{of_bits, to_bits};
 ghost use Rattle.base.specs.Buffers.{over, upto};
 ghost use Rattle.c_state.specs.State as states;
 
 use lpc::{FilterState, ResynthType};
-use std::array;
 
 // The history's words.
 fn load_words(buf: &[u8]) -> [u32; 33]
     requires { 168 ≤ length buf.now }
     ensures { result ≡ upto (states.history_at buf.now) 33 }
 {
-    array::from_fn(|i| base::bytes::read_u32(buf, 36 + 4 * i))
+    let mut history = [0; 33];
+    for i in 0..33 {
+        history[i] = base::bytes::read_u32(buf, 36 + 4 * i);
+    }
+    history
 }
 
 // The history's floats.
@@ -23,7 +26,11 @@ fn load_floats(buf: &[u8]) -> [f32; 33]
     requires { 168 ≤ length buf.now }
     ensures { result ≡ upto (λ i. of_bits binary32 (states.history_at buf.now i)) 33 }
 {
-    load_words(buf).map(float::f32_from_word)
+    let mut history = [0.0; 33];
+    for i in 0..33 {
+        history[i] = float::f32_from_word(base::bytes::read_u32(buf, 36 + 4 * i));
+    }
+    history
 }
 
 // The state, its histories 0.
@@ -60,13 +67,24 @@ pub fn load(buf: &[u8]) -> FilterState
     }
 }
 
+// The bits of a history's floats.
+fn float_words(history: &[f32; 33]) -> [u32; 33]
+    ensures { result ≡ upto (λ i. to_bits binary32 (get_or history.now i nan)) 33 }
+{
+    let mut words = [0; 33];
+    for i in 0..33 {
+        words[i] = float::f32_to_word(history[i]);
+    }
+    words
+}
+
 // The history of the state's filter, as words.
 fn words_of(state: FilterState) -> [u32; 33]
     ensures { result ≡ upto (states.word_of state) 33 }
 {
     match state.filter {
         ResynthType::Fixed => state.fixed,
-        ResynthType::Float => state.float.map(float::f32_to_word),
+        ResynthType::Float => float_words(&state.float),
     }
 }
 
@@ -89,8 +107,9 @@ fn store_history(state: FilterState, buf: &mut [u8])
     requires { 132 ≤ length buf.old }
     ensures { buf.new ≡ over (states.history_bytes state) buf.old }
 {
-    for (i, word) in words_of(state).iter().enumerate() {
-        base::bytes::put_u32(buf, i, *word);
+    let words = words_of(state);
+    for i in 0..33 {
+        base::bytes::put_u32(buf, i, words[i]);
     }
 }
 

@@ -1,12 +1,26 @@
-use Rattle.std.proofs.Common.{rules, ap, ◌∙◌}
-use Rattle.std.specs.Float.{nan, binary32}
-use Rattle.std.specs.Float.Ieee.{of_bits}
-use Rattle.base.proofs.BufferLaws.{get_or-upto, upto-same}
-use Rattle.c_state.specs.State.{history_at}
-use Rattle.c_state.proofs.ArrayLaws.{mapped_is}
+use mathlib.Core.Path.{◌≡◌, ◌∙◌}
+use Prim.Native.Nat.{◌<◌}
+use native.Mathlib.Omega.{arith}
+use lib.ListN.{replicate}
+use lib.Ieee.{binary32, of_bits}
+use Rattle.base.specs.Buffers.{upto}
+use Rattle.base.proofs.BufferLaws.{over-all, length-upto, stored-none, stored_more}
+use Rattle.c_state.proofs.load_floats.Invariants.{float_at}
 use Rattle.c_state.proofs.load_floats.Goals as goal
+
+pub loop-i-init : goal.loop-i-init
+loop-i-init c = (omega arith, stored-none (float_at c.args.buf.now) 0 (replicate 33 (of_bits binary32 0)))
+
+pub loop-i-preserved : goal.loop-i-preserved
+loop-i-preserved c =
+    let l = c.loop-i in
+    let f = float_at c.args.buf.now in
+    let room : l.i < 33 = omega arith in
+    (omega arith, rw (l.invariant.1, c.f32_from_word.ensures, c.read_u32.ensures) (stored_more f l.i (replicate 33 (of_bits binary32 0)) room))
 
 pub returns : goal.returns
 returns c =
-    mapped_is _ (of_bits binary32) _ _ 0 nan _ (λ x r q k. search rules) 33 c.map.ensures.items
-    ∙ upto-same _ _ 33 (λ k h. rw c.load_words.ensures (ap (of_bits binary32) (get_or-upto (history_at c.args.buf.now) 33 k 0 h)))
+    let l = c.loop-i in
+    let f = float_at c.args.buf.now in
+    let e : l.i ≡ 33 = omega arith in
+    rw e at l.invariant.1 ∙ over-all (upto f 33) (replicate 33 (of_bits binary32 0)) (omega (arith, length-upto f 33))

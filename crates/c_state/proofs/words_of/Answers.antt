@@ -5,10 +5,7 @@ use Rattle.base.specs.Buffers.{upto}
 use Rattle.base.proofs.BufferLaws.{upto_is}
 use Rattle.lpc.specs.declared.ResynthType.{ResynthType}
 use Rattle.lpc.specs.declared.ResynthType.TheVariants.{Fixed}
-use Rattle.std.specs.Float.{nan, binary32}
-use Rattle.std.specs.Float.Ieee.{to_bits}
 use Rattle.c_state.specs.State.{word_by}
-use Rattle.c_state.proofs.ArrayLaws.{mapped_is}
 use Rattle.c_state.proofs.words_of.Goals as goal
 
 -- that the history has 33 places is the rule of its field, the eighth of the state's
@@ -23,4 +20,4 @@ returns-in-Fixed c =
 pub returns-in-Float : goal.returns-in-Float
 returns-in-Float c =
     let s = c.args.state in
-    mapped_is _ (to_bits binary32) _ _ nan 0 _ (λ x r q k. search rules) 33 c.map.ensures.items ∙ ap (λ (t : ResynthType). upto (word_by t s) 33) (sym c.in-Float.is)
+    c.float_words.ensures ∙ ap (λ (t : ResynthType). upto (word_by t s) 33) (sym c.in-Float.is)
