@@ -9,7 +9,7 @@
  * little-endian; bytes past the last whole element of a buffer do not count. A function that refuses
  * leaves every buffer as it was. The processor must round to nearest and keep subnormal floats, as it
  * does unless a program sets it otherwise (a program linked with -ffast-math does). A thread that
- * calls them should have 64 KiB of stack left (57 KB were seen in a call; tests/c/stack.c measures it).
+ * calls them should have 64 KiB of stack left (60 KB were seen in a call; tests/c/stack.c measures it).
  */
 #ifndef DIPHONE_H
 #define DIPHONE_H

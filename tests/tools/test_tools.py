@@ -1,5 +1,5 @@
-"""Tests of tools/formats.py, sheet, voice-info, draw, draw-crates, draw-mu-law, believed, constants, make-example and
-make-edges."""
+"""Tests of tools/formats.py, sheet, voice-info, draw, draw-crates, draw-mu-law, believed, constants, make-example,
+make-edges, and of what try-definitions hands to rt."""
 import collections
 import contextlib
 import importlib.machinery
@@ -70,7 +70,7 @@ def loaded(name):
     return module
 
 
-NAMES = ("sheet", "voice-info", "draw", "draw-crates", "draw-mu-law", "believed", "constants")
+NAMES = ("sheet", "voice-info", "draw", "draw-crates", "draw-mu-law", "believed", "constants", "try-definitions")
 TOOLS = {name: loaded(name) for name in NAMES}
 
 
@@ -925,6 +925,28 @@ class Pages(unittest.TestCase):
         self.assertEqual(list(cited(source, "pub fn f() ensures { second }\n{")), [("a", "One")])
         self.assertEqual(list(cited(source, "ensures { two.third }")), [("b", "Two")])
         self.assertEqual(list(cited(source, "ensures { third }")), [])
+
+
+class Definitions(unittest.TestCase):
+    """What tools/try-definitions hands to rt; it runs for minutes itself."""
+
+    def test_statements(self):
+        """The oracle writes a call as those that are kept, and proved: the same imports, settings in the same words."""
+        written = (REPO / "oracle" / "src" / "statements" / "antt.rs").read_text(encoding="utf-8")
+        kept = (REPO / "crates" / "worked" / "proofs" / "Calls.antt").read_text(encoding="utf-8")
+        imports = re.compile(r"(?m)^use \S+\.\{.*\}$")
+        self.assertEqual(imports.findall(written), imports.findall(kept))
+        filters = set(re.findall(r"filter = (.*?);", kept))
+        self.assertGreaterEqual(len(filters), 3)
+        self.assertEqual([words for words in filters if f'=> "{words}"' not in written], [])
+
+    def test_declarations(self):
+        """Of a source file types and constants are left, without what belongs to a function."""
+        for path in REPO.glob("crates/*/src/**/*.rt"):
+            left = TOOLS["try-definitions"].declarations(path.read_text(encoding="utf-8"))
+            for line in left.splitlines():
+                if not re.match(r"(#!\[|#\[derive\(|//|(pub )?(const|enum|mod|static|struct|use) |[ )}\]]|$)", line):
+                    self.fail(f"{path}: {line}")
 
 
 class MuLaw(unittest.TestCase):

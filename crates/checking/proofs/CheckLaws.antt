@@ -32,6 +32,11 @@ use Rattle.checking.proofs.NeedLaws.{need-filled}
 pub read-refusal : (sheet : List ℕ) → refusal_of (answer_in (sheet_places sheet)) ≡ sheet_refusal sheet
 read-refusal sheet = answer-refusal sheet _ refl
 
+-- an answer, where the opening may refuse first
+abbrev pub after_opening : Option Refusal → Result Fit Refusal → Result Fit Refusal
+after_opening None a = a
+after_opening (Some r) a = Err r
+
 module _ (file sheet : List ℕ) (o : Settings) where
   pub opening-refused : (r : Refusal) → opening_refusal file ≡ Some r → check_refusal file sheet o ≡ Some r
   unfolding check_refusal
@@ -50,6 +55,14 @@ module _ (file sheet : List ℕ) (o : Settings) where
   pub refused-checked : (r : Refusal) → check_refusal file sheet o ≡ Some r → Err r ≡ checked_of file sheet o
   unfolding checked_of
   refused-checked r e = sym (ap (answer_checked (fit_of file sheet o)) e)
+
+  -- by what the opening answers, whatever follows it
+  pub checked_by : checked_of file sheet o ≡ after_opening (opening_refusal file) (checked_of file sheet o)
+  checked_by = by (opening_refusal file) refl
+    where
+      by : (x : Option Refusal) → opening_refusal file ≡ x → checked_of file sheet o ≡ after_opening x (checked_of file sheet o)
+      by None e = refl
+      by (Some r) e = sym (refused-checked r (opening-refused r e))
 
   pub passed-checked : (f : Fit) → Passes file sheet o f → Ok f ≡ checked_of file sheet o
   unfolding checked_of

@@ -27,11 +27,11 @@ module _ (v : Voice) (us : List Unit) (ts : List Target) where
     made-is : checked_marks end (pitch_marks v.header.rate ts) ≡ a
     made-is = ap (λ (n : ℕ). checked_marks end (pitch_marks n ts)) r ∙ sym is
 
-    marks-refused : (c : Refusal) → a ≡ Err c → Joins (modified_plan v us ts) (Err c)
+    pub marks-refused : (c : Refusal) → a ≡ Err c → Joins (modified_plan v us ts) (Err c)
     unfolding modified_plan
     marks-refused c q = let f = (checked-fit us end e).0 in rw f (checked_refused end _ c (made-is ∙ q))
 
-    marks-made : (c : Counts) → a ≡ Ok c → Bounded a → Joins (modified_plan v us ts) (Ok c)
+    pub marks-made : (c : Counts) → a ≡ Ok c → Bounded a → Joins (modified_plan v us ts) (Ok c)
     unfolding modified_plan
     marks-made c q b =
         let f = checked-fit us end e in

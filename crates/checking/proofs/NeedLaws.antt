@@ -4,7 +4,7 @@ use mathlib.Core.Path.{◌≡◌, refl, sym, ap, ◌∙◌}
 use mathlib.Core.Bool.{Bool, true, false}
 use mathlib.Core.List.{List}
 use Prim.Native.Nat.{ℕ, ◌*◌, ◌≤◌, ◌<◌}
-use native.Mathlib.Nat.{mul_comm}
+use native.Mathlib.Nat.{mul-zero, mul_comm}
 use native.Mathlib.Omega.{arith}
 use borrow.Author.Tests.{lt-ltb, le-ltb, ltb-false, leb-true}
 use lib.Dec.{ltb}
@@ -51,9 +51,9 @@ module _ (file : List ℕ) (d : DiphoneVoice) (o : IsOpen file d) (c : Counts) (
   order-is : (voice_of file).header.order ≡ d.header.order
   order-is = ap (λ (h : VoiceHeader). h.order) (header_is file d o.places)
 
-  pub need-few : c.marks < 2 → with 0 (d.header.order * 0) 0 ≡ need_by (voice_of file) c
+  pub need-few : c.marks < 2 → with 0 0 0 ≡ need_by (voice_of file) c
   unfolding need_by
-  need-few h = let n = entries-count file d o in rw (lt-ltb c.marks 2 h, n, r, order-is)
+  need-few h = let n = entries-count file d o in rw (lt-ltb c.marks 2 h, n, r, mul-zero)
 
   pub need-more : 2 ≤ c.marks → with c.taken (d.header.order * c.taken) c.last ≡ need_by (voice_of file) c
   unfolding need_by

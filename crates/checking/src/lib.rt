@@ -244,6 +244,7 @@ fn check_sheet(
 }
 
 // Checks 1 to 12, 16 and 17, of any two files, with room for names that are looked up in a lent buffer.
+#[tactic(auto, using(crate::proofs::CheckLaws::checked_by))]
 pub fn check_in(
     file: &[u8],
     sheet: &[u8],

@@ -6,11 +6,13 @@ use Prim.Native.Nat.{ℕ, suc, ◌+◌, ◌-◌, ◌*◌, ◌^◌, ◌≤◌, �
 use native.Mathlib.Nat.{le_refl, le_trans, le_of_eq, lt_of_lt_of_le, add-zero, pow-suc, pow-le-pow_right}
 use native.Mathlib.Numerals.{add-one}
 use native.Mathlib.Omega.{arith}
+use borrow.Author.Tests.{le-leb, lt-leb}
 use lib.Dec.{lit<}
 use lib.ListN.{length, drop, get_or, drop_of_length-le}
 use lib.Seq.{drop-cons}
 use Rattle.std.specs.Prelude.{Some}
 use Rattle.base.specs.Choice.{within}
+use Rattle.base.proofs.CaseLaws.{by_order}
 use Rattle.decimal.specs.Decimal.{digits, number}
 use Rattle.decimal.specs.Reading.{DigitAt, DigitsRead}
 
@@ -28,6 +30,15 @@ module _ (text : List ℕ) (at : ℕ) where
     pub digit-byte : within 48 57 (get_or text at 0) ≡ true → digits (drop at text) ≡ (get_or text at 0 - 48) ∷ digits (drop (suc at) text)
     unfolding digits
     digit-byte e = rw (drop-cons text at 0 h, e)
+
+    -- the same, by the order of the byte
+    pub digit-in : 48 ≤ get_or text at 0 → get_or text at 0 ≤ 57 → digits (drop at text) ≡ (get_or text at 0 - 48) ∷ digits (drop (suc at) text)
+    digit-in l r = digit-byte (rw (le-leb 48 (get_or text at 0) l, le-leb (get_or text at 0) 57 r))
+
+    pub other-out : (48 ≤ get_or text at 0 → get_or text at 0 ≤ 57 → ⊥) → digits (drop at text) ≡ []
+    other-out n =
+        let b = get_or text at 0 in
+        other-byte (by_order b 48 (λ l. rw (lt-leb 48 b l)) (λ l. by_order 57 b (λ r. rw (le-leb 48 b l, lt-leb b 57 r)) (λ r. absurd (n l r))))
 
 -- ---- numbers of digits
 pub number_append : (n : ℕ) (ds es : List ℕ) → number n (ds ++ es) ≡ number (number n ds) es

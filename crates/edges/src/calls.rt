@@ -1,29 +1,26 @@
 // Whole calls at the edges of what document 01 admits.
 use crate::pulls::front;
 use crate::{answers, pulls};
-use call::{JoinType, Planned, Settings};
-use lpc::ResynthType;
+use call::Planned;
 use std::io;
 
-// Makes a call by a join, with the fixed filter, that is lent so many bytes of each buffer: index, marks,
+const SIMPLE: u32 = call::JOIN_SIMPLE + call::FILTER_FIXED;
+
+const MODIFIED: u32 = call::JOIN_MODIFIED + call::FILTER_FIXED;
+
+// Makes a call with the settings of a word that is lent so many bytes of each buffer: index, marks,
 // sizes, rows, excitation and decoded.
-fn plan(voice: &[u8], sheet: &[u8], join: JoinType, lens: [usize; 6]) -> Planned {
+fn plan(voice: &[u8], sheet: &[u8], settings: u32, lens: [usize; 6]) -> Planned {
     let mut index = [0u8; 16];
     let mut marks = [0u8; 262144];
     let mut sizes = [0u8; 32760];
     let mut rows = [0u8; 192];
     let mut excitation = [0u8; 20475];
     let mut decoded = [0u8; 16];
-    let settings = Settings {
-        join,
-        filter: Some(ResynthType::Fixed),
-        fold: false,
-        strict: false,
-    };
     diphone::plan(
         voice,
         sheet,
-        settings,
+        call::settings_of(settings),
         front(&mut index, lens[0]),
         front(&mut marks, lens[1]),
         front(&mut sizes, lens[2]),
@@ -35,7 +32,7 @@ fn plan(voice: &[u8], sheet: &[u8], join: JoinType, lens: [usize; 6]) -> Planned
 
 // Makes the call by the modified join, and prints its answer.
 fn make<R: Print>(rt: &R, voice: &[u8], sheet: &[u8], lens: [usize; 6]) -> io::Result<()> {
-    let planned = plan(voice, sheet, JoinType::ModifiedLpc, lens);
+    let planned = plan(voice, sheet, MODIFIED, lens);
     answers::called(rt, planned.answer)
 }
 
@@ -43,7 +40,7 @@ fn make<R: Print>(rt: &R, voice: &[u8], sheet: &[u8], lens: [usize; 6]) -> io::R
 // and 3 samples, of the voice's one entry.
 pub fn try_segments<R: Print>(rt: &R, voice: &[u8], sheet: &[u8]) -> io::Result<()> {
     let lens = [8, 32760, 32760, 0, 20475, 0];
-    let planned = plan(voice, sheet, JoinType::Simple, lens);
+    let planned = plan(voice, sheet, SIMPLE, lens);
     answers::called(rt, planned.answer)
 }
 
@@ -98,7 +95,7 @@ pub fn try_bytes<R: Print>(rt: &R, voice: &[u8], sheet: &[u8]) -> io::Result<()>
 fn speak_nothing<R: Print>(rt: &R, voice: &[u8], index: usize, decoded: usize) -> io::Result<()> {
     let sheet = [0u8; 2];
     let lens = [index, 0, 0, 0, 0, decoded];
-    let planned = plan(voice, &sheet, JoinType::ModifiedLpc, lens);
+    let planned = plan(voice, &sheet, MODIFIED, lens);
     answers::called(rt, planned.answer)?;
     let mut samples = [0u8; 2];
     print!(rt; "a pull, all empty: ")?;

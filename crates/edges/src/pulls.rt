@@ -4,7 +4,7 @@ use lpc::{FilterState, ResynthType};
 use std::io;
 
 // The first n bytes of a buffer, or all where it has fewer.
-pub fn front(buf: &mut [u8], n: usize) -> &mut [u8] {
+pub(super) fn front(buf: &mut [u8], n: usize) -> &mut [u8] {
     let end = n.min(buf.len());
     &mut buf[..end]
 }

@@ -1,15 +1,15 @@
 -- A source, the window it is put into, and the period nearest to a place: one turn at a time.
 use mathlib.Core.Path.{◌≡◌, refl, sym, ap, ◌∙◌}
 use mathlib.Core.Bool.{true, false}
-use mathlib.Core.List.{List, ◌++◌, append_assoc}
+use mathlib.Core.List.{List, [], ◌∷◌, ◌++◌, append_assoc}
 use Prim.Native.Nat.{ℕ, suc, min, ◌+◌, ◌-◌, ◌*◌, ◌/◌, ◌≤◌, ◌<◌}
 use native.Mathlib.Omega.{arith}
 use native.Mathlib.Numerals.{add-one}
 use native.Mathlib.Nat.{zero-add}
 use borrow.Rule.Slice.PartMut.{put_mid}
 use borrow.Author.Tests.{lt-ltb, le-ltb}
-use lib.ListN.{length, take, drop, replicate, length-replicate, length-take, length-drop, drop_of_length-le}
-use lib.Seq.{sets, sets-eq, drop-drop, take_all}
+use lib.ListN.{length, take, drop, get_or, set, replicate, length-replicate, length-take, length-drop, drop_of_length-le}
+use lib.Seq.{sets, sets-eq, drop-drop, take_all, take-suc, length-take-le}
 use lib.Ieee.{Float, binary32, add}
 use Rattle.base.specs.Lists.{part}
 use Rattle.base.proofs.ListLaws.{part-part}
@@ -26,6 +26,13 @@ use Rattle.excitation.specs.Nearest.{f32_of, nearest_from}
 
 -- ---- bytes written
 
+-- one more of them
+pub copied_more : (b s : List ℕ) (at i : ℕ) → i < length s → set (sets b at (take i s)) (at + i) (get_or s i 0) ≡ sets b at (take (i + 1) s)
+copied_more b s at i h =
+    let e : length (take i s) ≡ i = length-take-le i s (omega arith) in
+    sym (ap (λ (t : List ℕ). sets b at t) (ap (λ (n : ℕ). take n s) (add-one i) ∙ take-suc s i 0 h) ∙ sets-append b at (take i s) (get_or s i 0 ∷ []) ∙ ap (λ (n : ℕ). set (sets b at (take i s)) (at + n) (get_or s i 0)) e)
+
+-- all of them at once
 pub put_at : (b s : List ℕ) (at n : ℕ) → at + n ≤ length b → length s ≡ n → put_mid at (at + n - at) b s ≡ sets b at s
 put_at b s at n h e =
     let m : at + n - at ≡ length s = omega (arith, e) in

@@ -44,12 +44,14 @@ fn fill_at(buf: &mut [u8], at: usize, n: usize)
     buf[at..at + n].fill(255);
 }
 
-// Writes bytes at a place.
+// Writes bytes at a place, one by one: the windows are short, and an engine in C needs no memmove.
 pub fn copy_at(from: &[u8], buf: &mut [u8], at: usize)
     requires { at + length from.now ≤ length buf.old }
     ensures { buf.new ≡ sets buf.old at from.now }
 {
-    buf[at..at + from.len()].copy_from_slice(from);
+    for i in 0..from.len() {
+        buf[at + i] = from[i];
+    }
 }
 
 // Puts a source into the window of so many samples at a place: the shorter of the two is centred in

@@ -4,6 +4,7 @@ use native.Mathlib.Nat.{add-mod_left, dvd-mul_right, mod-mod_of_dvd}
 use borrow.Author.Tests.{lt-leb}
 use lib.Ieee.{Float, nan, inf, fin, Format, binary32, prec, emax, low, up, down, odd, units, round, hid, ones, top, of_fields, of_bits}
 use Rattle.float.specs.Casts.{narrow}
+use Rattle.float.specs.Distance.{abs}
 
 -- x with the sign s; a NaN has none
 abbrev pub signed : Bool → Float → Float
@@ -44,6 +45,11 @@ narrow_signed s nan = refl
 narrow_signed s (inf t) = refl
 narrow_signed s (fin t m e) = round-signed s t binary32 (m * up e) (down e)
 
+abs-signed : (s : Bool) (x : Float) → abs (signed s x) ≡ signed false x
+abs-signed s nan = refl
+abs-signed s (inf t) = refl
+abs-signed s (fin t m e) = refl
+
 -- ---- a pattern is its sign's bit and the rest
 top_pos : (f : Format) → 0 < top f
 top_pos f = mul-pos (pow_pos (prec f - 1)) (zero-lt-suc (ones f))
@@ -64,3 +70,6 @@ plus f r h = rw (lt-leb (top f) r h, mod-eq_of_lt h) at (split f r)
 
 pub minus : (f : Format) (r : ℕ) → r < top f → of_bits f (top f + r) ≡ signed true (of_bits f r)
 minus f r h = rw (le-leb (top f) (top f + r) (le-add_right (top f) r), add-mod_left (top f) r, mod-eq_of_lt h) at (split f (top f + r))
+
+pub abs-bits : (f : Format) (b : ℕ) → abs (of_bits f b) ≡ of_bits f (b % top f)
+abs-bits f b = ap abs (split f b) ∙ abs-signed (leb (top f) b) (of_bits f (b % top f)) ∙ sym (plus f (b % top f) (mod-lt b (top_pos f)))

@@ -105,6 +105,9 @@ pub fn f32_to_nearest(x: f32) -> usize
 pub fn u32_to_f32(n: u32) -> f32
     ensures { result ≡ of_int binary32 (pos n) }
 {
+    if n <= 16777216 {
+        return n as f32;
+    }
     std::num::nearest_u32_to_f32(n)
 }
 
@@ -126,7 +129,10 @@ pub fn f32_to_word(x: f32) -> u32
 pub fn f32_abs(x: f32) -> f32
     ensures { result ≡ abs x }
 {
-    x.abs()
+    if x != x {
+        return x;
+    }
+    f32::from_bits(f32::to_bits(x) % 2147483648)
 }
 
 // Whether a is nearer to p than b is.

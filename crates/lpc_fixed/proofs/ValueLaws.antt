@@ -94,7 +94,7 @@ module _ (q : ℕ) (m r : ℤ) (hq : Fits w16 q) (hm : SFits w32 m) (hr : SFits 
   value-fits : SFits w64 (quot_z (kept sum) (pos 2))
   value-fits = rw (to_z-of_z sum_fits) (quot_fits w64 sum 2 sum_fits)
 
-  value-is : quot_z (kept sum) (pos 2) ≡ row_value m r q
+  pub value-is : quot_z (kept sum) (pos 2) ≡ row_value m r q
   unfolding row_value
   value-is = rw (to_z-of_z sum_fits, sum_is)
 

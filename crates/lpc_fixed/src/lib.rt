@@ -44,9 +44,9 @@ fn sum(
     }
     let mut acc = start;
     for k in (1..order).rev() {
-        acc = acc.wrapping_add(values[k].wrapping_mul(window[place + order - k]));
+        acc = acc.wrapping_add(base::words::wrapping_mul(values[k], window[place + order - k]));
     }
-    acc.wrapping_add(values[0].wrapping_mul(last))
+    acc.wrapping_add(base::words::wrapping_mul(values[0], last))
 }
 
 // A coefficient, scaled.
@@ -86,7 +86,7 @@ fn next(
         (upto (λ k. slice_index values.now k) order) (λ k. slice_index window.now (place + order - k)) 0) }
 {
     let sample = base::words::i32_to_word(ulaw::ulaw_to_i16(byte) as i32);
-    let start = sample.wrapping_mul(LPC_SCALE);
+    let start = base::words::wrapping_mul(sample, LPC_SCALE);
     base::words::divide_by_16384(sum(start, last, values, window, order, place))
 }
 

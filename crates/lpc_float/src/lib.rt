@@ -102,7 +102,7 @@ fn sample(y: f32) -> u16
         let negative = pattern / 2147483648;
         base::words::low16(whole + negative * (65536 - 2 * whole))
     } else {
-        float::f32_to_i16(y).cast_unsigned()
+        base::words::i16_to_word(float::f32_to_i16(y))
     }
 }
 

@@ -1,2 +1,3 @@
 -- Laws about planning.
+pub mod HoldLaws
 pub mod PlanLaws

@@ -25,7 +25,7 @@ pub extern "C" fn probe_period_samples(file: &[u8], p: usize) -> usize {
 // Copies bytes to a buffer where they fit; how many they are.
 fn hand_out(bytes: &[u8], out: &mut [u8]) -> usize {
     if bytes.len() <= out.len() {
-        base::bytes::copy(bytes, out);
+        excitation::copy_at(bytes, out, 0);
     }
     bytes.len()
 }

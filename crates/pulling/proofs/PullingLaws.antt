@@ -53,7 +53,7 @@ module _ (s : FilterState) (sizes rows excitation : List ℕ) where
   abbrev n : ℕ
   n = length rows / 2
 
-  possible-are : possible s (lent_of sizes rows excitation)
+  pub possible-are : possible s (lent_of sizes rows excitation)
       ≡ (leb s.order 32 && (leb s.ring_place s.order && (leb s.period m && (leb s.sample_place (length excitation) && (in_scale s.coeff_min && (in_scale s.coeff_range
       && (eqb s.period m || leb ((s.period + 1) * s.order) n)))))))
   unfolding possible lent_of every

@@ -9,12 +9,12 @@ use Rattle.sheet.specs.declared.Places.{Places}
 use Rattle.sheet.proofs.WalkLaws.{Ahead, Step, ahead-some, ahead_step, ahead-length}
 use Rattle.sheet.proofs.ReadLaws.{SheetAhead}
 
-name-none : (ss : List SegmentRead) (n : ℕ) → n ≡ 0 → name_of ss n ≡ []
+pub name-none : (ss : List SegmentRead) (n : ℕ) → n ≡ 0 → name_of ss n ≡ []
 unfolding name_of
 name-none ss zero e = refl
 name-none ss (suc n) e = absurd (omega arith)
 
-name-past : (ss : List SegmentRead) (n : ℕ) → length ss < n → name_of ss n ≡ []
+pub name-past : (ss : List SegmentRead) (n : ℕ) → length ss < n → name_of ss n ≡ []
 unfolding name_of
 name-past ss zero h = absurd (omega arith)
 name-past [] (suc n) h = refl

@@ -2,11 +2,13 @@
 use mathlib.Core.Path.{◌≡◌, refl, ap}
 use mathlib.Core.Bool.{Bool, true, false, ◌&&◌}
 use mathlib.Core.List.{List, [], ◌∷◌}
-use Prim.Native.Nat.{ℕ, ◌<◌}
+use Prim.Native.Nat.{ℕ, ◌+◌, ◌<◌}
 use native.Mathlib.Omega.{arith}
+use native.Mathlib.Numerals.{add-one}
 use borrow.Author.Tests.{eqb-true, eq-eqb, ne_eqb, lt-ltb, le-ltb}
 use lib.Dec.{eqb}
-use lib.ListN.{length}
+use lib.ListN.{length, drop, get_or}
+use lib.Seq.{drop-cons}
 use Rattle.std.specs.Cmp.Lexicographic.{pointwise, slice_cmp}
 use Rattle.std.specs.Ordering.{nat_cmp}
 use Rattle.std.proofs.lemmas.Bool.{cases_order}
@@ -79,3 +81,25 @@ order_is (a ∷ as') (b ∷ bs) =
       | inr (inl l) ↦ simp (ne_eqb a b (λ e. omega arith), lt-ltb a b l)
       | inr (inr g) ↦ simp (ne_eqb a b (λ e. omega arith), le-ltb a b (omega arith))
     ]
+
+-- ---- two names from a place on
+
+-- the smaller byte stands first
+pub order-before : (a b : List ℕ) (i : ℕ) → i < length a → i < length b → get_or a i 0 < get_or b i 0 → order_of (drop i a) (drop i b) ≡ Less
+unfolding order_of same before
+order-before a b i ha hb l =
+    rw (drop-cons a i 0 ha, drop-cons b i 0 hb)
+    (simp (ne_eqb (get_or a i 0) (get_or b i 0) (λ e. omega arith), lt-ltb (get_or a i 0) (get_or b i 0) l))
+
+pub order-after : (a b : List ℕ) (i : ℕ) → i < length a → i < length b → get_or b i 0 < get_or a i 0 → order_of (drop i a) (drop i b) ≡ Greater
+unfolding order_of same before
+order-after a b i ha hb l =
+    rw (drop-cons a i 0 ha, drop-cons b i 0 hb)
+    (simp (ne_eqb (get_or a i 0) (get_or b i 0) (λ e. omega arith), le-ltb (get_or a i 0) (get_or b i 0) (omega arith)))
+
+-- equal bytes leave it to the rest
+pub order-more : (a b : List ℕ) (i : ℕ) → i < length a → i < length b → get_or a i 0 ≡ get_or b i 0 → order_of (drop (i + 1) a) (drop (i + 1) b) ≡ order_of (drop i a) (drop i b)
+unfolding order_of same before
+order-more a b i ha hb e =
+    rw (add-one i, drop-cons a i 0 ha, drop-cons b i 0 hb)
+    (simp (eq-eqb (get_or a i 0) (get_or b i 0) e, le-ltb (get_or a i 0) (get_or b i 0) (omega arith)))

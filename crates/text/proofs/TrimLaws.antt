@@ -26,7 +26,7 @@ not-both e = let z : ◌≡◌ {A = ℕ} 0 1 = cc in omega arith
 
 -- ---- the character at a place
 
-three-not : (a b c : ℕ) → eqb a 0xE1 ≡ false → eqb a 0xE2 ≡ false → eqb a 0xE3 ≡ false → three_bytes a b c ≡ false
+pub three-not : (a b c : ℕ) → eqb a 0xE1 ≡ false → eqb a 0xE2 ≡ false → eqb a 0xE3 ≡ false → three_bytes a b c ≡ false
 three-not a b c e f g = rw (e, f, g)
 
 -- a byte that is not 0 is there

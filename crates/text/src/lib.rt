@@ -116,14 +116,27 @@ pub fn utf8(s: &[u8]) -> bool
     complete(w)
 }
 
+// How many bytes of two names are compared one by one, before the library compares the names: most differ there.
+const FIRST_BYTES: usize = 8;
+
 // How the name a stands to the name b, in the order by bytes.
+#[tactic(auto, using(crate::proofs::NameLaws::order_is))]
 pub fn compare(a: &[u8], b: &[u8]) -> Ordering
     ensures { result ≡ names.order_of a.now b.now }
 {
+    for i in 0..a.len().min(b.len()).min(FIRST_BYTES) {
+        if a[i] < b[i] {
+            return Ordering::Less;
+        }
+        if b[i] < a[i] {
+            return Ordering::Greater;
+        }
+    }
     a.cmp(&b)
 }
 
 // Whether two names are the same.
+#[tactic(auto, using(crate::proofs::NameLaws::same_is))]
 pub fn same(a: &[u8], b: &[u8]) -> bool
     ensures { result ≡ names.same a.now b.now }
 {

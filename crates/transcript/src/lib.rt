@@ -10,8 +10,8 @@ ghost use Rattle.call.specs.Pull.{lent_of};
 ghost use Rattle.transcript.specs.CallText as text;
 ghost use Rattle.transcript.specs.Program.{program_settings, too_long};
 
-use call::{JoinType, Settings, Summary};
-use lpc::{FilterState, ResynthType};
+use call::{Settings, Summary};
+use lpc::FilterState;
 use refusal::Refusal;
 
 // The limits of document 01's program: the bytes of its voice file and of its sheet.
@@ -31,12 +31,7 @@ pub fn is_too_long(voice: &[u8], sheet: &[u8]) -> bool
 pub fn program_settings() -> Settings
     ensures { result ≡ program_settings }
 {
-    Settings {
-        join: JoinType::Simple,
-        filter: Some(ResynthType::Fixed),
-        fold: false,
-        strict: false,
-    }
+    call::settings_of(call::JOIN_SIMPLE + call::FILTER_FIXED)
 }
 
 // How many samples a pull gave.

@@ -250,11 +250,11 @@ module _ (file : List ℕ) (d : DiphoneVoice) (o : IsOpen file d) (ss : List Seg
   selected : (e : EntryPeriods) → periods_of (entry_of (voice_of file) ss left right) ≡ e → Selected e
   selected e q = subst Selected q (refl, selected-within file d o ss left right)
 
-  selected-found : {e : EntryPeriods} → found_of (tried_entry (voice_of file) ss left right) ≡ Some e → Selected e
+  pub selected-found : {e : EntryPeriods} → found_of (tried_entry (voice_of file) ss left right) ≡ Some e → Selected e
   unfolding entry_of
   selected-found {e} q = selected e (found-entry (voice_of file) (tried_entry (voice_of file) ss left right) _ e q)
 
-  selected-first : found_of (tried_entry (voice_of file) ss left right) ≡ None → {e : EntryPeriods} → e ≡ periods_of (first_of (sorted (voice_of file))) → Selected e
+  pub selected-first : found_of (tried_entry (voice_of file) ss left right) ≡ None → {e : EntryPeriods} → e ≡ periods_of (first_of (sorted (voice_of file))) → Selected e
   unfolding entry_of
   selected-first m {e} q = selected e (ap (λ (x : Entry). periods_of x) (missing-entry (voice_of file) (tried_entry (voice_of file) ss left right) _ m) ∙ sym q)
 
@@ -285,10 +285,10 @@ module _ (file : List ℕ) (fold : Bool) (ss : List SegmentRead) (l r : SegmentR
   tried-plain e q = q ∙ ap found_of (sym (same_next (voice_of file) (by_name false)) ∙ tried-is false e)
 
   module _ (e : t ≡ true) where
-    tried-found : {q : EntryPeriods} → found_of (by_name true) ≡ Some q → Some q ≡ found_of tried_here
+    pub tried-found : {q : EntryPeriods} → found_of (by_name true) ≡ Some q → Some q ≡ found_of tried_here
     tried-found {q} f = found-next (voice_of file) (by_name true) (by_name false) q f ∙ ap found_of (tried-is true e)
 
-    tried-missing : found_of (by_name true) ≡ None → {f : Option EntryPeriods} → f ≡ found_of (by_name false) → f ≡ found_of tried_here
+    pub tried-missing : found_of (by_name true) ≡ None → {f : Option EntryPeriods} → f ≡ found_of (by_name false) → f ≡ found_of tried_here
     tried-missing m q = q ∙ ap found_of (sym (missing-next (voice_of file) (by_name true) (by_name false) m) ∙ tried-is true e)
 
     -- what the first name finds, else what the second does

@@ -9,13 +9,13 @@ use std::fmt::Display;
 /// The head of a file of statements, for a crate that uses crate `worked`.
 pub const HEAD: &str = "\
 -- Calls with what the Rust, or document 01 where it refuses them, makes of them. Written by `oracle statements`.
+use Rattle.std.specs.Prelude.{None, Some}
 use mathlib.Core.Path.{◌≡◌, refl}
 use mathlib.Core.Bool.{true, false}
 use mathlib.Core.List.{List, [], ◌∷◌}
 use Prim.Native.Nat.{ℕ}
 use lib.IntN.{pos, negsuc}
 use Rattle.lpc.specs.declared.ResynthType.TheVariants.{Fixed, Float}
-use Rattle.call.specs.declared.FilterSetting.TheVariants.{Unnamed, Named}
 use Rattle.call.specs.declared.JoinType.TheVariants.{None, Simple, ModifiedLpc}
 use Rattle.call.specs.declared.Settings.{Settings}
 use Rattle.call.specs.Buffers.{Buffers}
@@ -62,9 +62,9 @@ fn settings(settings: Settings) -> String {
         Join::Modified => "ModifiedLpc",
     };
     let filter = match settings.filter {
-        Some(Filter::Fixed) => "Named Fixed",
-        Some(Filter::Float) => "Named Float",
-        None => "Unnamed",
+        Some(Filter::Fixed) => "Some Fixed",
+        Some(Filter::Float) => "Some Float",
+        None => "None",
     };
     let Settings { fold, strict, .. } = settings;
     format!("record {{ join = {join}; filter = {filter}; fold = {fold}; strict = {strict} }}")

@@ -1,3 +1,4 @@
+use native.Mathlib.Nat.{mul-zero}
 use native.Mathlib.Omega.{arith}
 use Prim.Native.Nat.{◌≤◌, ◌<◌}
 use Rattle.checking.proofs.NeedLaws.{need-few, need-more}
@@ -10,7 +11,7 @@ returns c =
     elim c.if-counts-lt2.branch [
       | then-counts-lt2 w ↦
           let few : a.counts.marks < 2 = omega (arith, w.if-counts-lt2) in
-          rw w.periods-is (need-few a.file.now a.d c.requires.0 a.counts c.decode_room.result c.decode_room.ensures.0 few)
+          rw (w.periods-is, mul-zero) (need-few a.file.now a.d c.requires.0 a.counts c.decode_room.result c.decode_room.ensures.0 few)
       | else-counts-lt2 w ↦
           let more : 2 ≤ a.counts.marks = omega (arith, w.if-counts-lt2) in
           rw w.periods-is (need-more a.file.now a.d c.requires.0 a.counts c.decode_room.result c.decode_room.ensures.0 more)

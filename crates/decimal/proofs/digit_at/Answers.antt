@@ -1,5 +1,5 @@
-use Rattle.std.proofs.Common.{sym, arith}
-use Rattle.decimal.proofs.DigitLaws.{past_end, other-byte, digit-byte}
+use Rattle.std.proofs.Common.{◌≡◌, ◌-◌, ◌≤◌, get_or, arith}
+use Rattle.decimal.proofs.DigitLaws.{past_end, digit-in, other-out}
 use Rattle.decimal.proofs.digit_at.Goals as goal
 
 pub returns-in_err-byte : goal.returns-in_err-byte
@@ -10,12 +10,15 @@ returns-in_err-byte c =
 pub returns-then-is_ascii_digit : goal.returns-then-is_ascii_digit
 returns-then-is_ascii_digit c =
     let there = c.in_ok-byte.ensures.lookup.3 in
+    let same = there.1 0 in
     let range = c.if-is_ascii_digit.ensures.cases in
-    let test = rw (there.1 0) at (sym c.if-is_ascii_digit.ensures.value) in
-    (there.0, omega (arith, range), rw (c.from.ensures, there.1 0) (digit-byte c.args.text.now c.args.at there.0 test))
+    let low : 48 ≤ get_or c.args.text.now c.args.at 0 = omega (arith, range, same) in
+    let high : get_or c.args.text.now c.args.at 0 ≤ 57 = omega (arith, range, same) in
+    let value : c.from.result ≡ get_or c.args.text.now c.args.at 0 - 48 = omega (arith, c.from.ensures, same) in
+    (there.0, omega (arith, range, c.from.ensures), rw value (digit-in c.args.text.now c.args.at there.0 low high))
 
 pub returns-else-is_ascii_digit : goal.returns-else-is_ascii_digit
 returns-else-is_ascii_digit c =
     let there = c.in_ok-byte.ensures.lookup.3 in
-    let test = rw (there.1 0) at (sym c.if-is_ascii_digit.ensures.value) in
-    other-byte c.args.text.now c.args.at there.0 test
+    let same = there.1 0 in
+    other-out c.args.text.now c.args.at there.0 (λ l r. omega (arith, l, r, c.if-is_ascii_digit.ensures.cases, same))

@@ -1,4 +1,4 @@
-use Rattle.std.proofs.Common.{◌≡◌, ap, ◌∙◌, w16, w32}
+use Rattle.std.proofs.Common.{◌≡◌, pos, ◌*ℤ◌, ap, ◌∙◌, w16, w32}
 use Rattle.base.specs.Words.{low}
 use Rattle.ulaw.specs.Ulaw.{sample_of}
 use Rattle.lpc.specs.Fixed.{divided}
@@ -11,4 +11,5 @@ returns c =
     let u = c.ulaw_to_i16 in
     let sample : c.i32_to_word-sample.result ≡ low 32 (sample_of c.args.byte) =
     c.i32_to_word-sample.ensures ∙ ap (low 32) (cast_is w16 w32 tt u.result (record { sfits = u.type_inv }) ∙ u.ensures) in
-    c.divide_by_16384.ensures ∙ rw (c.sum.ensures, sample, started (sample_of c.args.byte))
+    let start : c.wrapping_mul-start.result ≡ low 32 (sample_of c.args.byte *ℤ pos 16384) = c.wrapping_mul-start.ensures ∙ rw sample (started _) in
+    c.divide_by_16384.ensures ∙ rw (c.sum.ensures, start)

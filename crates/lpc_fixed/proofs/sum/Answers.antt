@@ -1,4 +1,4 @@
-use Rattle.std.proofs.Common.{◌≡◌, ℕ, ◌-◌, suc, get_or, refl, ap, ◌∙◌, arith}
+use Rattle.std.proofs.Common.{◌≡◌, ℕ, ◌-◌, suc, get_or, ap, ◌∙◌, arith}
 use Rattle.lpc.specs.Sums.{fixed_step}
 use Rattle.lpc_fixed.proofs.SumLaws.{from, from-end, from-more}
 use Rattle.lpc_fixed.proofs.sum.Goals as goal
@@ -13,7 +13,7 @@ pub loop-k-preserved : goal.loop-k-preserved
 loop-k-preserved c =
     let l = c.loop-k in
     let n : l.k ≡ suc (l.k - 1) = omega arith in
-    (omega arith, from-more _ _ _ _ _ (l.k - 1) l.acc _ (omega arith) (l.invariant.1 ∙ ap (from _ _ _ _ _) n) refl)
+    (omega arith, from-more _ _ _ _ _ (l.k - 1) l.acc _ (omega arith) (l.invariant.1 ∙ ap (from _ _ _ _ _) n) (rw c.wrapping_mul-acc.ensures))
 
 pub returns : goal.returns
 returns c =
@@ -21,4 +21,4 @@ returns c =
     let l = c.loop-k in
     let n : l.k ≡ 1 = omega arith in
     from-more _ _ _ _ _ 0 l.acc _ (omega arith) (rw n at l.invariant.1)
-    (ap (λ (z : ℕ). fixed_step l.acc (get_or a.values.now 0 0) z) (c.requires.2 ∙ ap (λ (i : ℕ). get_or a.window.now i 0) (omega arith)))
+    (rw c.wrapping_mul.ensures (ap (λ (z : ℕ). fixed_step l.acc (get_or a.values.now 0 0) z) (c.requires.2 ∙ ap (λ (i : ℕ). get_or a.window.now i 0) (omega arith))))
