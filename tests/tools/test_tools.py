@@ -945,7 +945,7 @@ class Definitions(unittest.TestCase):
         for path in REPO.glob("crates/*/src/**/*.rt"):
             left = TOOLS["try-definitions"].declarations(path.read_text(encoding="utf-8"))
             for line in left.splitlines():
-                if not re.match(r"(#!\[|#\[derive\(|//|(pub )?(const|enum|mod|static|struct|use) |[ )}\]]|$)", line):
+                if not re.match(r"(#!\[|#\[derive\(|//|(pub )?(const|enum|mod|static|struct) |use .*[A-Z}]\w*;$|use .*\{|[ )}\]]|$)", line):
                     self.fail(f"{path}: {line}")
 
 
